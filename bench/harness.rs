@@ -1,0 +1,208 @@
+// Times the proved library and the crate on the same inputs, by turns, and prints one table.
+#[path = "../tools/oracle/src/random.rs"]
+mod random;
+
+use markdown::util::encode::encode;
+use markdown::util::sanitize_uri::sanitize;
+use random::Random;
+use std::hint::black_box;
+use std::str::{from_utf8, from_utf8_unchecked};
+use std::time::Instant;
+
+const SEED: u64 = 1;
+const ROUNDS: usize = 41;
+
+// Each answers a length; the public calls may refuse, by a number above every length.
+type Ours = unsafe extern "C" fn(*const u8, usize, *mut u8, usize) -> u64;
+extern "C" {
+    fn leaf_encode(src: *const u8, n: usize, out: *mut u8, room: usize) -> u64;
+    fn leaf_sanitize(src: *const u8, n: usize, out: *mut u8, room: usize) -> u64;
+    fn page_escape(src: *const u8, n: usize, out: *mut u8, room: usize) -> u64;
+    fn page_sanitize(src: *const u8, n: usize, out: *mut u8, room: usize) -> u64;
+}
+
+// The same jobs by the crate: a leaf is given text, a user has bytes and tests them first.
+fn crate_encode(text: &[u8]) -> String {
+    encode(unsafe { from_utf8_unchecked(text) }, true)
+}
+fn crate_sanitize(text: &[u8]) -> String {
+    sanitize(unsafe { from_utf8_unchecked(text) })
+}
+fn crate_escape_bytes(text: &[u8]) -> String {
+    encode(from_utf8(text).unwrap(), true)
+}
+fn crate_sanitize_bytes(text: &[u8]) -> String {
+    sanitize(from_utf8(text).unwrap())
+}
+
+/// A job on an input of one or more texts, a call for each.
+struct Row {
+    call: &'static str,
+    ours: Ours,
+    theirs: fn(&[u8]) -> String,
+    input: &'static str,
+    texts: Vec<String>,
+    /// how many times the answer's length is lent as room
+    room: usize,
+}
+
+fn rows() -> Vec<Row> {
+    let mut random = Random(SEED);
+    let notes = [
+        ("plain 16 KB", vec![note(&mut random, 16_384, usize::MAX)]),
+        ("prose 16 KB", vec![note(&mut random, 16_384, 60)]),
+        ("code 16 KB", vec![note(&mut random, 16_384, 8)]),
+        ("40 bytes", vec![note(&mut random, 40, 20)]),
+    ];
+    let urls = [
+        ("200 ASCII URLs", urls(&mut random, 200, 20, 80, &["a", "b", "Z", "9", "-", ".", "/", "?", "=", "&", "%20"])),
+        ("ASCII URL 8 KB", urls(&mut random, 1, 8_192, 8_192, &["a", "b", "Z", "9", "-", ".", "/", "=", "%20"])),
+        (
+            "200 other URLs",
+            urls(&mut random, 200, 20, 80, &["a", "b", "Z", "9", "/", "=", " ", "é", "\u{20AC}", "\u{1F44D}"]),
+        ),
+    ];
+    let mut rows = Vec::new();
+    let mut add = |call, ours, theirs, inputs: &[(&'static str, Vec<String>)], room| {
+        for (input, texts) in inputs {
+            rows.push(Row { call, ours, theirs, input, texts: texts.clone(), room });
+        }
+    };
+    add("leaf_encode", leaf_encode as Ours, crate_encode as fn(&[u8]) -> String, &notes, 1);
+    add("leaf_sanitize", leaf_sanitize, crate_sanitize, &urls, 1);
+    add("page_escape", page_escape, crate_escape_bytes, &notes, 1);
+    add("page_sanitize", page_sanitize, crate_sanitize_bytes, &urls, 1);
+    add("page_escape", page_escape, crate_escape_bytes, &notes[1..2], 4);
+    add("page_sanitize", page_sanitize, crate_sanitize_bytes, &urls[..1], 4);
+    rows
+}
+
+/// Words and spaces, with what needs an escape about every `gap` bytes, and a character outside ASCII as often.
+fn note(random: &mut Random, length: usize, gap: usize) -> String {
+    let mut text = String::new();
+    while text.len() < length {
+        match random.below(gap) {
+            0 => text.push(random.pick(&['&', '<', '>', '"'])),
+            1 if gap > 8 && gap < usize::MAX => text.push(random.pick(&['é', '\u{20AC}', '\u{1F44D}'])),
+            _ => text.push(random.pick(b"abcdefghijklmnopqrstuvwxyz      ") as char),
+        }
+    }
+    text
+}
+
+fn urls(random: &mut Random, count: usize, least: usize, most: usize, pieces: &[&str]) -> Vec<String> {
+    let mut url = || {
+        let length = least + random.below(most - least + 1);
+        let mut url = "https://example.com/".to_string();
+        while url.len() < length {
+            url.push_str(random.pick(pieces));
+        }
+        url
+    };
+    (0..count).map(|_| url()).collect()
+}
+
+/// One side of a row, ready to be run. Both sides are first held to the same bytes.
+type Side<'a> = Box<dyn FnMut() + 'a>;
+fn sides(row: &Row) -> (Side<'_>, Side<'_>) {
+    let mut lent: Vec<(&[u8], Vec<u8>)> = Vec::new();
+    for text in row.texts.iter().map(|text| text.as_bytes()) {
+        let wanted = (row.theirs)(text);
+        let mut out = vec![0xA5; wanted.len() * row.room];
+        let length = unsafe { (row.ours)(text.as_ptr(), text.len(), out.as_mut_ptr(), out.len()) } as usize;
+        assert_eq!(length, wanted.len(), "{} gives another length on {:?}", row.call, from_utf8(text));
+        assert_eq!(&out[..length], wanted.as_bytes(), "{} gives other bytes on {:?}", row.call, from_utf8(text));
+        lent.push((text, out));
+    }
+    let ours = move || {
+        for (text, out) in &mut lent {
+            black_box(unsafe { (row.ours)(black_box(text.as_ptr()), text.len(), out.as_mut_ptr(), out.len()) });
+        }
+    };
+    let theirs = || {
+        for text in &row.texts {
+            black_box((row.theirs)(black_box(text.as_bytes())));
+        }
+    };
+    (Box::new(ours), Box::new(theirs))
+}
+
+/// How often a side is run in one measurement: for a millisecond or more.
+fn repeats(side: &mut Side) -> u32 {
+    let mut count = 1;
+    while time(side, count) * (count as f64) < 1e6 {
+        count *= 2;
+    }
+    count
+}
+
+/// Nanoseconds for one run, of `count`.
+fn time(side: &mut Side, count: u32) -> f64 {
+    let began = Instant::now();
+    for _ in 0..count {
+        side();
+    }
+    began.elapsed().as_nanos() as f64 / count as f64
+}
+
+/// The least time of each side, and the median of the rounds' ratios. The side that goes first changes each round.
+fn measure(ours: &mut Side, theirs: &mut Side) -> (f64, f64, f64) {
+    let (our_count, their_count) = (repeats(ours), repeats(theirs));
+    let (mut our_least, mut their_least, mut ratios) = (f64::MAX, f64::MAX, Vec::new());
+    for round in 0..ROUNDS {
+        let early = (round % 2 == 0).then(|| time(ours, our_count));
+        let their_time = time(theirs, their_count);
+        let our_time = early.unwrap_or_else(|| time(ours, our_count));
+        our_least = our_least.min(our_time);
+        their_least = their_least.min(their_time);
+        ratios.push(our_time / their_time);
+    }
+    ratios.sort_by(f64::total_cmp);
+    (our_least, their_least, ratios[ROUNDS / 2])
+}
+
+// Valgrind's count is set to 0, and written to the next dump: run makes these two where it finds valgrind's header.
+#[cfg(count)]
+extern "C" {
+    fn count_from_here();
+    fn count_to_here();
+}
+
+#[cfg(count)]
+fn main() {
+    for row in rows() {
+        let (mut ours, mut theirs) = sides(&row);
+        for side in [&mut ours, &mut theirs] {
+            unsafe { count_from_here() };
+            side();
+            unsafe { count_to_here() };
+        }
+    }
+}
+
+#[cfg(not(count))]
+fn main() {
+    let file = std::env::args().nth(1).expect("usage: harness INSTRUCTIONS");
+    print_table(&std::fs::read_to_string(file).expect("the file of instructions can be read"));
+}
+
+/// `instructions` has a line for each side of each row, in their order, or nothing.
+fn print_table(instructions: &str) {
+    let counts: Vec<f64> = instructions.lines().map(|line| line.parse().unwrap()).collect();
+    println!("call           input           room  ours ns/B  crate ns/B  least  median  instructions");
+    for (k, row) in rows().iter().enumerate() {
+        let (mut ours, mut theirs) = sides(row);
+        let (our_time, their_time, median) = measure(&mut ours, &mut theirs);
+        let bytes = row.texts.iter().map(String::len).sum::<usize>() as f64;
+        let by_count = counts.get(2 * k..2 * k + 2).map_or("-".to_string(), |c| format!("{:.3}", c[0] / c[1]));
+        println!(
+            "{:<13}  {:<14}  {:>4}  {:>9.3}  {:>10.3}  {:>5.3}  {median:>6.3}  {by_count:>12}",
+            row.call,
+            row.input,
+            format!("{}x", row.room),
+            our_time / bytes,
+            their_time / bytes,
+            our_time / their_time
+        );
+    }
+}

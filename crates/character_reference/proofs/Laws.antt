@@ -1,0 +1,202 @@
+-- The laws of character references: what the code's cases rest on, and what callers go by. Assumes nothing.
+use mathlib.Core.Path.{_≡_, refl, sym, subst, _∙_}
+use mathlib.Core.Bool.{Bool, true, false, not, cond, _&&_, _||_}
+use mathlib.Core.List.{List, [], _∷_}
+use mathlib.Core.Option.{some}
+use Prim.Native.Nat.{ℕ, _+_, _/_, _<_, _≤_}
+use native.Mathlib.Omega.{arith}
+use borrow.Author.Tests.{lt-ltb, le-ltb, le-leb, ltb-false, leb-false, not-true}
+use lib.Dec.{eqb, leb, ltb, lit≤}
+use lib.ListN.{length}
+use Rattle.lent.specs.Bytes.{if_then_else_, between, same}
+use Rattle.lent.specs.Fill.{Filled}
+use Rattle.lent.proofs.Laws.{none, and-left, and-right}
+use Rattle.character_reference.specs.declared.Marker.{Marker}
+use Rattle.character_reference.specs.declared.Marker.the-variants.{Named, Decimal, Hexadecimal}
+use Rattle.character_reference.specs.declared.Value.{Value}
+use Rattle.character_reference.specs.declared.Value.the-variants.{Code, Broken}
+use Rattle.utf8.specs.Utf8.{charOf, tail, replacement}
+use Rattle.character_reference.specs.Reference.{isReplaced, codeOf, areDigits, numberOf, numeralOf, names, lookup, namedOf, valueOf, standsFor, referenceOf, isSome, orNothing, writtenOf}
+use Rattle.character_reference.proofs.Numbers.{inside}
+
+-- ---- what a value's code can be
+
+either : {A : Type 0} (P : A → Type 0) (t : Bool) {x y : A} → P x → P y → P (cond t x y)
+either P true p q = p
+either P false p q = q
+
+or-right : (a b : Bool) → (a || b) ≡ false → b ≡ false
+or-right true b p = let z : _≡_ {A = ℕ} 0 1 = cc in absurd (omega arith)
+or-right false b p = p
+
+or-left : (a b : Bool) → (a || b) ≡ false → a ≡ false
+or-left true b p = p
+or-left false b p = refl
+
+-- the controls among the numbers replaced
+abbrev isControl : ℕ → Bool
+isControl c = leb c 0x8 || eqb c 0xB || between 0xE 0x1F c || between 0x7F 0x9F c
+
+module _ (c : ℕ) (kept : isReplaced c ≡ false) where
+  kept-in-range : c < 0x110000
+  unfolding isReplaced
+  kept-in-range = omega (arith, ltb-false 0x10FFFF c (or-right (isControl c || between 0xD800 0xDFFF c) (ltb 0x10FFFF c) kept))
+
+  no-surrogate : between 0xD800 0xDFFF c ≡ false
+  unfolding isReplaced
+  no-surrogate = or-right (isControl c) (between 0xD800 0xDFFF c) (or-left (isControl c || between 0xD800 0xDFFF c) (ltb 0x10FFFF c) kept)
+
+  kept-scalar : (ltb c 0xD800 || between 0xE000 0x10FFFF c) ≡ true
+  kept-scalar = go (ltb c 0xD800) refl
+    where
+      go : (t : Bool) → ltb c 0xD800 ≡ t → (ltb c 0xD800 || between 0xE000 0x10FFFF c) ≡ true
+      go true e = rw e
+      go false e =
+          let low : 0xD800 ≤ c = ltb-false c 0xD800 e in
+          let none : leb c 0xDFFF ≡ false = rw (le-leb 0xD800 c low) at no-surrogate in
+          let last : c ≤ 0x10FFFF = omega (arith, kept-in-range) in
+          rw (e, inside 0xE000 0x10FFFF c (leb-false c 0xDFFF none) last)
+
+abbrev Kept : Value → Type 0
+Kept (Code c) = isReplaced c ≡ false
+Kept Broken = Unit {0}
+
+replacement-kept : isReplaced 0xFFFD ≡ false
+unfolding isReplaced
+replacement-kept = refl
+
+pub code-kept : (c : ℕ) → isReplaced (codeOf c) ≡ false
+unfolding codeOf
+code-kept c = go (isReplaced c) refl
+  where
+    go : (t : Bool) → isReplaced c ≡ t → isReplaced (if isReplaced c then 0xFFFD else c) ≡ false
+    go true e = rw e replacement-kept
+    go false e = rw e e
+
+abbrev areKept : List (List ℕ × ℕ) → Bool
+areKept [] = true
+areKept (entry ∷ entries) = not (isReplaced (entry .1)) && areKept entries
+
+table-kept : (entries : List (List ℕ × ℕ)) (s : List ℕ) → areKept entries ≡ true → Kept (lookup entries s)
+unfolding lookup
+table-kept [] s p = tt
+table-kept (entry ∷ entries) s p =
+    either Kept (same s (entry .0)) {x = Code (entry .1)} {y = lookup entries s}
+    (not-true (isReplaced (entry .1)) (and-left (not (isReplaced (entry .1))) (areKept entries) p))
+    (table-kept entries s (and-right (not (isReplaced (entry .1))) (areKept entries) p))
+
+names-are-kept : areKept names ≡ true
+unfolding isReplaced
+names-are-kept = refl
+
+value-kept : (marker : Marker) (s : List ℕ) → Kept (valueOf marker s)
+unfolding valueOf namedOf numeralOf
+value-kept Named s = table-kept names s names-are-kept
+value-kept Decimal s = either Kept (areDigits 10 7 s) {x = Code (codeOf (numberOf 10 s))} {y = Broken} (code-kept (numberOf 10 s)) tt
+value-kept Hexadecimal s = either Kept (areDigits 16 6 s) {x = Code (codeOf (numberOf 16 s))} {y = Broken} (code-kept (numberOf 16 s)) tt
+
+-- ---- a value, by its marker
+
+module _ (marker : Marker) (s : List ℕ) (v : Value) where
+  pub by-name : marker ≡ Named → v ≡ namedOf s → v ≡ valueOf marker s
+  unfolding valueOf
+  by-name m e = rw (m, e)
+
+  pub by-digits : marker ≡ Decimal → v ≡ numeralOf 10 7 s → v ≡ valueOf marker s
+  unfolding valueOf
+  by-digits m e = rw (m, e)
+
+  pub by-hexadecimal-digits : marker ≡ Hexadecimal → v ≡ numeralOf 16 6 s → v ≡ valueOf marker s
+  unfolding valueOf
+  by-hexadecimal-digits m e = rw (m, e)
+
+  pub is-none : v ≡ valueOf marker s → v ≡ Broken → false ≡ isSome (referenceOf marker s)
+  unfolding referenceOf
+  is-none e h = rw (← e, h)
+
+  pub writes-nothing : (d : List ℕ) (at : ℕ) → v ≡ valueOf marker s → v ≡ Broken → Filled d at (orNothing (referenceOf marker s)) d at
+  unfolding referenceOf
+  writes-nothing d at e h = rw (← e, h) (none d at)
+
+  module _ (c : ℕ) (e : v ≡ valueOf marker s) (h : v ≡ Code c) where
+    pub is-one : true ≡ isSome (referenceOf marker s)
+    unfolding referenceOf
+    is-one = rw (← e, h)
+
+    -- the code of a value is none of the numbers replaced: it is a character's
+    pub is-kept : isReplaced c ≡ false
+    is-kept = subst Kept (sym e ∙ h) (value-kept marker s)
+
+    pub in-range : c < 0x110000
+    in-range = kept-in-range c is-kept
+
+    -- `utf8`'s `isScalar`
+    pub is-scalar : (ltb c 0xD800 || between 0xE000 0x10FFFF c) ≡ true
+    is-scalar = kept-scalar c is-kept
+
+    pub writes : (d f : List ℕ) (at r : ℕ) → Filled d at (writtenOf c) f r → Filled d at (orNothing (referenceOf marker s)) f r
+    unfolding referenceOf writtenOf
+    writes d f at r p = rw (← e, h) (rw (lt-ltb c 0x110000 in-range) at p)
+
+-- ---- how long a character is
+
+pub record Short (s : List ℕ) : Type 0 where
+  pub some-byte : 1 ≤ length s
+  pub few-bytes : length s ≤ 4
+
+pub short : (c : ℕ) → Short (charOf c)
+unfolding charOf
+short c =
+    either Short (ltb c 0x80) (record { some-byte = lit≤ tt; few-bytes = lit≤ tt })
+    (either Short (ltb c 0x800) (record { some-byte = lit≤ tt; few-bytes = lit≤ tt })
+    (either Short (ltb c 0x10000) (record { some-byte = lit≤ tt; few-bytes = lit≤ tt }) (record { some-byte = lit≤ tt; few-bytes = lit≤ tt })))
+
+-- what a reference gives is never empty, and at most four bytes
+pub short-reference : (marker : Marker) (s b : List ℕ) → referenceOf marker s ≡ some b → Short b
+unfolding referenceOf
+short-reference marker s b p = go (valueOf marker s) p
+  where
+    go : (v : Value) → standsFor v ≡ some b → Short b
+    go (Code c) q = let e : charOf c ≡ b = cc in rw e at (short c)
+    go Broken q = let z : _≡_ {A = ℕ} 0 1 = cc in absurd (omega arith)
+
+-- so a value writes at most four bytes
+pub at-most-four : (marker : Marker) (s : List ℕ) → length (orNothing (referenceOf marker s)) ≤ 4
+unfolding referenceOf
+at-most-four marker s = go (valueOf marker s)
+  where
+    go : (v : Value) → length (orNothing (standsFor v)) ≤ 4
+    go (Code c) = short c .few-bytes
+    go Broken = lit≤ tt
+
+-- and a number the character with its code, or U+FFFD
+pub character : (c : ℕ) → charOf (codeOf c) ≡ (if isReplaced c then replacement else charOf c)
+unfolding codeOf charOf
+character c = go (isReplaced c)
+  where
+    go : (t : Bool) → charOf (if t then 0xFFFD else c) ≡ (if t then replacement else charOf c)
+    go true = refl
+    go false = refl
+
+-- ---- characters, by their length
+
+module _ (d f : List ℕ) (at r c : ℕ) where
+  pub one-byte : c < 0x80 → Filled d at (c ∷ []) f r → Filled d at (writtenOf c) f r
+  unfolding writtenOf charOf
+  one-byte h p = rw (lt-ltb c 0x110000 (omega arith), lt-ltb c 0x80 h) p
+
+  pub two-bytes : (x : ℕ) → 0x80 ≤ c → c < 0x800 → x ≡ tail c → Filled d at ((0xC0 + c / 64) ∷ x ∷ []) f r → Filled d at (writtenOf c) f r
+  unfolding writtenOf charOf
+  two-bytes x h k e p = rw (lt-ltb c 0x110000 (omega arith), le-ltb c 0x80 h, lt-ltb c 0x800 k, ← e) p
+
+  pub three-bytes : (x y : ℕ) → 0x800 ≤ c → c < 0x10000 → y ≡ tail (c / 64) → x ≡ tail c → Filled d at ((0xE0 + c / 4096) ∷ y ∷ x ∷ []) f r → Filled d at (writtenOf c) f r
+  unfolding writtenOf charOf
+  three-bytes x y h k e′ e p = rw (lt-ltb c 0x110000 (omega arith), le-ltb c 0x80 (omega arith), le-ltb c 0x800 h, lt-ltb c 0x10000 k, ← e′, ← e) p
+
+  pub four-bytes : (x y z : ℕ) → 0x10000 ≤ c → c < 0x110000 → z ≡ tail (c / 4096) → y ≡ tail (c / 64) → x ≡ tail c → Filled d at ((0xF0 + c / 262144) ∷ z ∷ y ∷ x ∷ []) f r → Filled d at (writtenOf c) f r
+  unfolding writtenOf charOf
+  four-bytes x y z h k e″ e′ e p = rw (lt-ltb c 0x110000 k, le-ltb c 0x80 (omega arith), le-ltb c 0x800 (omega arith), le-ltb c 0x10000 h, ← e″, ← e′, ← e) p
+
+  pub no-character : 0x110000 ≤ c → Filled d at (0xEF ∷ 0xBF ∷ 0xBD ∷ []) f r → Filled d at (writtenOf c) f r
+  unfolding writtenOf
+  no-character h p = rw (le-ltb c 0x110000 h) p

@@ -1,0 +1,52 @@
+// The library for C and Rust: the public calls with plain numbers for answers, and two leaves alone, for measuring.
+ghost use mathlib.Core.Bool.{true};
+ghost use mathlib.Core.Path.{_≡_};
+ghost use Rattle.lent.specs.Fill.{Filled};
+ghost use Rattle.encode.specs.Encode.{encodeOf};
+ghost use Rattle.sanitize_uri.specs.Url.{sanitizeOf};
+ghost use Rattle.exports.specs.Packed.{packed, Packs};
+
+// Escapes a text for HTML, encoding on.
+#[no_mangle]
+pub extern "C" fn page_escape(text: &[u8], out: &mut [u8]) -> u64
+    ensures { λ r. ⌜ Packs (now (text .entry)) (encodeOf true (now (text .entry))) (now (out .entry)) (now (out .exit)) r ⌝ }
+{
+    let written = page::escape(text, true, out);
+    pack(written)
+}
+
+// Makes a URL safe for an attribute.
+#[no_mangle]
+pub extern "C" fn page_sanitize(url: &[u8], out: &mut [u8]) -> u64
+    ensures { λ r. ⌜ Packs (now (url .entry)) (sanitizeOf (now (url .entry))) (now (out .entry)) (now (out .exit)) r ⌝ }
+{
+    let written = page::sanitize(url, out);
+    pack(written)
+}
+
+// The leaf alone: no test for UTF-8, nothing cleared behind the answer.
+#[no_mangle]
+pub extern "C" fn leaf_encode(text: &[u8], out: &mut [u8]) -> usize
+    ensures { λ r. ⌜ Filled (now (out .entry)) 0 (encodeOf true (now (text .entry))) (now (out .exit)) r ⌝ }
+{
+    encode::encode(text, true, out, 0)
+}
+
+#[no_mangle]
+pub extern "C" fn leaf_sanitize(url: &[u8], out: &mut [u8]) -> usize
+    ensures { λ r. ⌜ Filled (now (out .entry)) 0 (sanitizeOf (now (url .entry))) (now (out .exit)) r ⌝ }
+{
+    sanitize_uri::sanitize(url, out, 0)
+}
+
+// The length, or 2^63 and the refusal's number.
+fn pack(w: page::Written) -> u64
+    ensures { λ r. ⌜ r ≡ packed w ⌝ }
+{
+    match w {
+        page::Written::Length(n) => n as u64,
+        page::Written::TooLong => 0x8000000000000001,
+        page::Written::NotUtf8 => 0x8000000000000002,
+        page::Written::NoRoom => 0x8000000000000009,
+    }
+}

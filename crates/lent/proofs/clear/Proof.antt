@@ -1,0 +1,51 @@
+-- The loop's invariant: zeros from `i` on make what zeros from `from` on make of the buffer lent. Assumes nothing.
+use mathlib.Core.Path.{_≡_, refl}
+use mathlib.Core.List.{_++_}
+use Prim.Native.Nat.{_-_}
+use lib.ListN.{length, take}
+use Rattle.lent.specs.Fill.{zeros}
+use Rattle.lent.proofs.Laws.{cleared, clear-end}
+use borrow.Author.Needs.{needs}
+use Rattle.lent.proofs.clear.Statement.{statement}
+use Rattle.lent.proofs.clear.Tie as tie
+
+abbrev Inv-loop : tie.InvT-loop
+Inv-loop out₀ from i₀ out i = (take i out ++ zeros (length out - i) ≡ take from out₀ ++ zeros (length out₀ - from)) × (length out ≡ length out₀)
+
+abbrev μ-loop : tie.MeasureT-loop
+μ-loop out₀ from i₀ out i = length out₀ - i
+
+loop-holds : tie.Need-loop-holds Inv-loop μ-loop
+loop-holds c = (refl, refl)
+
+slice-write-out : tie.Need-slice-write-out Inv-loop μ-loop
+slice-write-out c = search needs
+
+add-i : tie.Need-add-i Inv-loop μ-loop
+add-i c = search needs
+
+loop-less : tie.Need-loop-less Inv-loop μ-loop
+loop-less c = search needs
+
+loop-again : tie.Need-loop-again Inv-loop μ-loop
+loop-again c = search (cleared, needs)
+
+same-length : tie.Need-same-length Inv-loop μ-loop
+same-length c = search needs
+
+returns : tie.Need-returns Inv-loop μ-loop
+returns c = search clear-end
+
+pub clear-spec : {M : Type 1} → statement M
+clear-spec =
+    tie.close
+    (tie.spec
+    Inv-loop
+    μ-loop
+    loop-holds
+    slice-write-out
+    add-i
+    loop-less
+    loop-again
+    same-length
+    returns)

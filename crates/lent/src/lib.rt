@@ -1,0 +1,60 @@
+// Writing into a lent buffer: the place behind the last byte goes in and comes out. A place past the buffer's end says that
+// something had no room, and stays so; callers need no test between two writes.
+ghost use Prim.Native.Nat.{_+_, _-_, _≤_};
+ghost use mathlib.Core.List.{[], _∷_, _++_};
+ghost use mathlib.Core.Path.{_≡_};
+ghost use lib.ListN.{length, take};
+ghost use Rattle.lent.specs.Fill.{fill, zeros, Filled};
+
+// Appends one byte.
+pub fn put(out: &mut [u8], at: usize, b: u8) -> usize
+    ensures { λ r. ⌜ Filled (now (out .entry)) at (b ∷ []) (now (out .exit)) r ⌝ }
+{
+    if at < out.len() {
+        out[at] = b;
+        return at + 1;
+    }
+    if out.len() < at {
+        return at;
+    }
+    at + 1
+}
+
+// Appends all of `s`, or as much as fits.
+pub fn put_all(out: &mut [u8], at: usize, s: &[u8]) -> usize
+    ensures { λ r. ⌜ Filled (now (out .entry)) at (now (s .entry)) (now (out .exit)) r ⌝ }
+{
+    if out.len() < at {
+        return at;
+    }
+    let room = out.len() - at;
+    if s.len() <= room {
+        copy(out, at, s, s.len());
+        return at + s.len();
+    }
+    copy(out, at, s, room);
+    out.len() + 1
+}
+
+// The first n bytes of `s`, which fit.
+fn copy(out: &mut [u8], at: usize, s: &[u8], n: usize)
+    requires { ⌜ (n ≤ length (now s)) × (at + n ≤ length (now out)) ⌝ }
+    ensures { λ _. ⌜ now (out .exit) ≡ fill (now (out .entry)) at (take n (now (s .entry))) ⌝ }
+{
+    let mut i = 0;
+    while i < n {
+        out[at + i] = s[i];
+        i += 1;
+    }
+}
+
+// Zeros from a place on.
+pub fn clear(out: &mut [u8], from: usize)
+    ensures { λ _. ⌜ now (out .exit) ≡ take from (now (out .entry)) ++ zeros (length (now (out .entry)) - from) ⌝ }
+{
+    let mut i = from;
+    while i < out.len() {
+        out[i] = 0;
+        i += 1;
+    }
+}

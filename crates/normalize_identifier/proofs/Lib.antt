@@ -1,0 +1,5 @@
+pub mod Laws
+pub mod Steps
+pub mod Compare
+pub mod Search
+pub mod Examples

@@ -1,0 +1,2 @@
+pub mod Protocols
+pub mod Url

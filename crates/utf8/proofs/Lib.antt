@@ -1,0 +1,7 @@
+pub mod Computed
+pub mod Table
+pub mod Run
+pub mod Walk
+pub mod Laws
+pub mod Chars
+pub mod Characters

@@ -1,0 +1,143 @@
+// Runs the program `calls` on batches of requests and compares all that it writes with what the judge expects.
+use crate::judge;
+use crate::request::Request;
+use std::io::{Read, Write};
+use std::process::{Command, Stdio};
+use std::thread;
+
+/// A process is given about this many bytes, requests and answers together: starting one costs as much as some
+/// thousand requests.
+const BATCH: usize = 8 << 20;
+/// So many differences are shown.
+const SHOWN: usize = 10;
+
+/// The program under test, the batch that is being filled, and what was counted.
+pub struct Drive<'a> {
+    program: &'a [&'a str],
+    batch: Vec<Request>,
+    filled: usize,
+    pub asked: usize,
+    pub differences: usize,
+    /// the first request whose answer differs, then the smallest, each with its place in its batch
+    kept: Vec<(Request, usize)>,
+    pub labels: usize,
+    pub labels_by_crate: usize,
+}
+
+impl<'a> Drive<'a> {
+    pub fn new(program: &'a [&'a str]) -> Self {
+        Drive {
+            program,
+            batch: Vec::new(),
+            filled: 0,
+            asked: 0,
+            differences: 0,
+            kept: Vec::new(),
+            labels: 0,
+            labels_by_crate: 0,
+        }
+    }
+
+    pub fn ask(&mut self, request: Request) {
+        self.filled += 32 + request.text.len() + 24 + request.room;
+        self.batch.push(request);
+        if self.filled > BATCH {
+            self.finish_batch();
+        }
+    }
+
+    /// Runs what was asked and not run yet.
+    pub fn finish_batch(&mut self) {
+        let batch = std::mem::take(&mut self.batch);
+        self.filled = 0;
+        let came = run(self.program, &batch);
+        let mut rest = &came[..];
+        self.asked += batch.len();
+        for (k, request) in batch.iter().enumerate() {
+            if let Some(by_crate) = judge::label_by_crate(request) {
+                self.labels += 1;
+                self.labels_by_crate += by_crate as usize;
+            }
+            let wanted = judge::expected(request);
+            let last = k + 1 == batch.len();
+            if rest.starts_with(&wanted) && (!last || rest.len() == wanted.len()) {
+                rest = &rest[wanted.len()..];
+            } else {
+                rest = &rest[answer_length(rest)..];
+                self.differences += 1;
+                self.keep(request, k);
+            }
+        }
+    }
+
+    fn keep(&mut self, request: &Request, place: usize) {
+        self.kept.push((request.clone(), place));
+        self.kept[1..].sort_by_key(|(request, _)| (request.text.len(), request.room));
+        self.kept.truncate(SHOWN);
+    }
+
+    /// Shows what was kept. Each is asked again by itself: an answer of a wrong length makes those behind it differ too.
+    pub fn show(&self) {
+        for (request, place) in &self.kept {
+            let (op, options, room) = (request.op, request.options, request.room);
+            let wanted = judge::expected(request);
+            let came = run(self.program, std::slice::from_ref(request));
+            println!("op {op} options {options} room {room} text {}", escaped(&request.text));
+            println!("    wanted {}", told(&wanted));
+            println!("    came   {}", told(&came));
+            if came == wanted {
+                println!("    that is asked alone: the difference came behind {place} other requests");
+            }
+        }
+    }
+}
+
+/// All that the program writes on these requests. It may end early: the missing answers show in the comparison.
+fn run(program: &[&str], batch: &[Request]) -> Vec<u8> {
+    let mut input = Vec::new();
+    for request in batch {
+        request.write(&mut input);
+    }
+    let mut child = Command::new(program[0])
+        .args(&program[1..])
+        .env_clear()
+        .stdin(Stdio::piped())
+        .stdout(Stdio::piped())
+        .spawn()
+        .expect("the program can be started");
+    let mut stdin = child.stdin.take().unwrap();
+    let writer = thread::spawn(move || {
+        let _ = stdin.write_all(&input);
+    });
+    let mut came = Vec::new();
+    child.stdout.take().unwrap().read_to_end(&mut came).expect("the program's output can be read");
+    writer.join().unwrap();
+    child.wait().unwrap();
+    came
+}
+
+fn field(answer: &[u8], at: usize) -> u32 {
+    u32::from_le_bytes(answer[at..at + 4].try_into().unwrap())
+}
+
+/// How long the first answer is by its own word, at most all there is.
+fn answer_length(came: &[u8]) -> usize {
+    if came.len() < 24 {
+        return came.len();
+    }
+    came.len().min(24 + field(came, 16) as usize)
+}
+
+fn told(answer: &[u8]) -> String {
+    if answer.len() < 24 {
+        return format!("{} bytes, no answer", answer.len());
+    }
+    let fields: Vec<u32> = (0..24).step_by(4).map(|at| field(answer, at)).collect();
+    format!("number, value, second, edition, room, work {fields:?} output {}", escaped(&answer[24..]))
+}
+
+fn escaped(bytes: &[u8]) -> String {
+    let shown = &bytes[..bytes.len().min(120)];
+    let more = if shown.len() < bytes.len() { ".." } else { "" };
+    format!("\"{}\"{more} ({} bytes)", shown.escape_ascii(), bytes.len())
+}
