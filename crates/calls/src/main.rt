@@ -5,8 +5,11 @@ ghost use lib.ListN.{length};
 
 // The most that a request may bring or ask for.
 const MOST_TEXT: usize = 262144;
+
 const MOST_EVENTS: usize = 131072;
+
 const MOST_ROOM: usize = 524288;
+
 const MOST_WORK: usize = 131072;
 
 // A request's first 32 bytes, read.

@@ -1,26 +1,44 @@
-// Text made safe for HTML, as `encode.rs`: runs of bytes that stay are copied at once, the others one by one.
-ghost use Prim.Native.Nat.{_+_, _≤_};
+// Text made safe for HTML, as `encode.rs`. Sixteen bytes that all stay are copied at once, others one by one.
+ghost use Prim.Native.Nat.{_+_, _≤_, min};
+ghost use mathlib.Core.Bool.{true};
 ghost use mathlib.Core.Path.{_≡_};
-ghost use lib.ListN.{length};
-ghost use Rattle.lent.specs.Bytes.{all};
+ghost use lib.ListN.{length, take, drop};
+ghost use Rattle.lent.specs.Bytes.{any};
 ghost use Rattle.lent.specs.Fill.{Filled};
 ghost use Rattle.encode.specs.Encode.{encodeByte, encodeOf};
-ghost use Rattle.encode.specs.Runs.{isPlain, Run};
+ghost use Rattle.encode.specs.Private.{isSpecial};
 
 // Appends `value`, with NUL replaced and, if `encode_html`, with `&`, `<`, `>` and `"` as character references.
 pub fn encode(value: &[u8], encode_html: bool, out: &mut [u8], at: usize) -> usize
     ensures { λ r. ⌜ Filled (now (out .entry)) at (encodeOf «encode_html» (now (value .entry))) (now (out .exit)) r ⌝ }
 {
     let mut r = at;
-    let mut start = 0;
-    while start < value.len() {
-        let index = plain_to(value, start, encode_html);
-        r = lent::put_all(out, r, &value[start..index]);
-        if index == value.len() {
-            return r;
-        }
-        r = put_byte(value[index], encode_html, out, r);
-        start = index + 1;
+    let mut i = 0;
+    while 16 <= value.len() - i {
+        r = put_block(value, i, encode_html, out, r);
+        i += 16;
+    }
+    put_bytes(&value[i..], encode_html, out, r)
+}
+
+fn put_block(value: &[u8], i: usize, encode_html: bool, out: &mut [u8], at: usize) -> usize
+    requires { ⌜ i + 16 ≤ length (now value) ⌝ }
+    ensures { λ r. ⌜ Filled (now (out .entry)) at (encodeOf «encode_html» (take 16 (drop i (now (value .entry))))) (now (out .exit)) r ⌝ }
+{
+    if has_special(value, i, encode_html) {
+        return put_bytes(&value[i..i + 16], encode_html, out, at);
+    }
+    lent::put_all(out, at, &value[i..i + 16])
+}
+
+fn put_bytes(value: &[u8], encode_html: bool, out: &mut [u8], at: usize) -> usize
+    ensures { λ r. ⌜ Filled (now (out .entry)) at (encodeOf «encode_html» (now (value .entry))) (now (out .exit)) r ⌝ }
+{
+    let mut r = at;
+    let mut i = 0;
+    while i < value.len() {
+        r = put_byte(value[i], encode_html, out, r);
+        i += 1;
     }
     r
 }
@@ -29,11 +47,18 @@ pub fn encode(value: &[u8], encode_html: bool, out: &mut [u8], at: usize) -> usi
 pub fn put_byte(b: u8, encode_html: bool, out: &mut [u8], at: usize) -> usize
     ensures { λ r. ⌜ Filled (now (out .entry)) at (encodeByte «encode_html» b) (now (out .exit)) r ⌝ }
 {
+    if is_special(b, encode_html) {
+        return put_reference(b, out, at);
+    }
+    lent::put(out, at, b)
+}
+
+// The texts have a function of their own: it alone pays for having them at hand.
+pub fn put_reference(b: u8, out: &mut [u8], at: usize) -> usize
+    ensures { λ r. ⌜ Filled (now (out .entry)) at (encodeByte true b) (now (out .exit)) r ⌝ }
+{
     if b == 0 {
         return lent::put_all(out, at, b"\xEF\xBF\xBD");
-    }
-    if !encode_html {
-        return lent::put(out, at, b);
     }
     if b == b'&' {
         return lent::put_all(out, at, b"&amp;");
@@ -50,52 +75,39 @@ pub fn put_byte(b: u8, encode_html: bool, out: &mut [u8], at: usize) -> usize
     lent::put(out, at, b)
 }
 
-// Whether a byte stays as it is. No branch: `plain_block` is then a few instructions for sixteen bytes.
-fn is_plain(b: u8, encode_html: bool) -> bool
-    ensures { λ r. ⌜ r ≡ isPlain «encode_html» b ⌝ }
+// Whether a byte becomes something else: NUL, and with encoding on the bits 34, 38, 60 and 62 of the mask too.
+fn is_special(b: u8, encode_html: bool) -> bool
+    ensures { λ r. ⌜ r ≡ isSpecial «encode_html» b ⌝ }
 {
-    (b != 0) & (!encode_html | ((b != 34) & (b != 38) & (b != 60) & (b != 62)))
+    if encode_html {
+        return lent::has_bit(0x5000004400000001, at_most_63(b));
+    }
+    b == 0
 }
 
-// A place from `start` on up to which all bytes stay.
-fn plain_to(value: &[u8], start: usize, encode_html: bool) -> usize
-    requires { ⌜ start ≤ length (now value) ⌝ }
-    ensures { λ r. ⌜ Run «encode_html» (now (value .entry)) start r ⌝ }
+fn at_most_63(b: u8) -> u8
+    ensures { λ r. ⌜ r ≡ min b 63 ⌝ }
 {
-    let mut i = plain_blocks(value, start, encode_html);
-    while i < value.len() {
-        if !is_plain(value[i], encode_html) {
-            return i;
-        }
-        i += 1;
-    }
-    i
+    if b < 63 { b } else { 63 }
 }
 
-// The same, in steps of sixteen bytes.
-fn plain_blocks(value: &[u8], start: usize, encode_html: bool) -> usize
-    requires { ⌜ start ≤ length (now value) ⌝ }
-    ensures { λ r. ⌜ Run «encode_html» (now (value .entry)) start r ⌝ }
+// The same by comparisons: sixteen at a time are a few instructions.
+fn is_one_special(b: u8, encode_html: bool) -> bool
+    ensures { λ r. ⌜ r ≡ isSpecial «encode_html» b ⌝ }
 {
-    let mut i = start;
-    while 16 <= value.len() - i {
-        if !plain_block(&value[i..i + 16], encode_html) {
-            return i;
-        }
-        i += 16;
-    }
-    i
+    (b == 0) | (encode_html & ((b == 34) | (b == 38) | (b == 60) | (b == 62)))
 }
 
-// Whether all bytes stay. It looks at each, so that the compiler can look at many at a time.
-fn plain_block(block: &[u8], encode_html: bool) -> bool
-    ensures { λ r. ⌜ r ≡ all (isPlain «encode_html») (now (block .entry)) ⌝ }
+// Whether some byte of a block does. It looks at each, so that the compiler can look at all at once.
+fn has_special(value: &[u8], i: usize, encode_html: bool) -> bool
+    requires { ⌜ i + 16 ≤ length (now value) ⌝ }
+    ensures { λ r. ⌜ r ≡ any (isSpecial «encode_html») (take 16 (drop i (now (value .entry)))) ⌝ }
 {
-    let mut plain = true;
-    let mut i = 0;
-    while i < block.len() {
-        plain = plain & is_plain(block[i], encode_html);
-        i += 1;
+    let mut found = false;
+    let mut k = 0usize;
+    while k < 16 {
+        found = found | is_one_special(value[i + k], encode_html);
+        k += 1;
     }
-    plain
+    found
 }

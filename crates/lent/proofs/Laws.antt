@@ -1,15 +1,15 @@
 -- The laws of filling: what callers of `lent` go by. Assumes nothing.
 use mathlib.Core.Path.{_≡_, refl, sym, ap, ap₂, _∙_}
-use mathlib.Core.Bool.{Bool, true, false, _&&_}
+use mathlib.Core.Bool.{Bool, true, false, _&&_, _||_, or-assoc, or-false}
 use mathlib.Core.List.{List, [], _∷_, _++_, append-nil, append-assoc}
 use Prim.Native.Nat.{ℕ, zero, suc, _+_, _-_, _≤_, _<_, min, max}
 use native.Mathlib.Nat.{suc-add, zero-add}
 use native.Mathlib.Omega.{arith}
 use native.Mathlib.Numerals.{add-one}
-use lib.ListN.{length, take, drop, set, getD, replicate, length-append, length-set, length-take, length-drop, take-append-drop}
+use lib.ListN.{length, take, drop, set, getD, replicate, length-append, length-set, length-take, length-drop, drop-of-length-le, take-append-drop}
 use lib.Seq.{drop-cons, take-all, take-suc, take-suc-set, append-snoc, take-length, take-take, take-at}
 use Rattle.lent.specs.Fill.{fill, past, Filled, zeros}
-use Rattle.lent.specs.Bytes.{all as every, each}
+use Rattle.lent.specs.Bytes.{any, each}
 
 -- ---- fill, by the buffer's first byte
 
@@ -111,6 +111,9 @@ step q left p = record { rest = λ f r h. left .rest f r (rw q (both p h)); long
 pub done : {d₀ d : List ℕ} {at₀ at : ℕ} {s₀ u : List ℕ} → u ≡ [] → Left d₀ at₀ s₀ d at u → Filled d₀ at₀ s₀ d at
 done {d = d} {at = at} q left = left .rest d at (rw q (none d at))
 
+pub last : {d₀ d e : List ℕ} {at₀ at r : ℕ} {s₀ s : List ℕ} → Left d₀ at₀ s₀ d at s → Filled d at s e r → Filled d₀ at₀ s₀ e r
+last {e = e} {r = r} left p = left .rest e r p
+
 -- ---- lists, as a loop that counts by `i + 1` meets them
 
 pub next : (l : List ℕ) (i : ℕ) → i < length l → drop i l ≡ getD l i 0 ∷ drop (i + 1) l
@@ -124,14 +127,38 @@ pub and-right : (a b : Bool) → (a && b) ≡ true → b ≡ true
 and-right true b p = p
 and-right false b p = let z : _≡_ {A = ℕ} 0 1 = cc in absurd (omega arith)
 
+-- a test of each of the n bytes from i on, one by one
+module _ (f : ℕ → Bool) (l : List ℕ) (i n k : ℕ) where
+  pub any-more : (x y w : Bool) → i + n ≤ length l → k < n → (x || any f (take (n - k) (drop (i + k) l))) ≡ w → y ≡ f (getD l (i + k) 0)
+      → ((x || y) || any f (take (n - (k + 1)) (drop (i + (k + 1)) l))) ≡ w
+  any-more x y w h m p q =
+      let a : i + k < length l = omega arith in
+      let b : n - k ≡ suc (n - (k + 1)) = omega arith in
+      let c : i + (k + 1) ≡ i + k + 1 = omega arith in
+      rw c (or-assoc x y (any f (take (n - (k + 1)) (drop (i + k + 1) l))) ∙ (rw (b, next l (i + k) a, ← q) at p))
+
+  pub any-end : (x w : Bool) → n ≤ k → (x || any f (take (n - k) (drop (i + k) l))) ≡ w → x ≡ w
+  any-end x w h p = let e : n - k ≡ 0 = omega arith in sym (or-false x) ∙ (rw e at p)
+
+pub any-start : (f : ℕ → Bool) (l : List ℕ) (i n : ℕ) → any f (take n (drop (i + 0) l)) ≡ any f (take n (drop i l))
+any-start f l i n = let a : i + 0 ≡ i = omega arith in rw a
+
+pub or-left : (a b : Bool) → (a || b) ≡ false → a ≡ false
+or-left true b p = p
+or-left false b p = refl
+
+pub or-right : (a b : Bool) → (a || b) ≡ false → b ≡ false
+or-right true b p = let z : _≡_ {A = ℕ} 0 1 = cc in absurd (omega arith)
+or-right false b p = p
+
 pub each-append : (f : ℕ → List ℕ) (s t : List ℕ) → each f (s ++ t) ≡ each f s ++ each f t
 each-append f [] t = refl
 each-append f (b ∷ s) t = ap (λ (x : List ℕ). f b ++ x) (each-append f s t) ∙ sym (append-assoc (f b) (each f s) (each f t))
 
 -- bytes that f leaves as they are
-pub each-kept : (f : ℕ → List ℕ) (p : ℕ → Bool) → ((b : ℕ) → p b ≡ true → f b ≡ b ∷ []) → (s : List ℕ) → every p s ≡ true → each f s ≡ s
+pub each-kept : (f : ℕ → List ℕ) (p : ℕ → Bool) → ((b : ℕ) → p b ≡ false → f b ≡ b ∷ []) → (s : List ℕ) → any p s ≡ false → each f s ≡ s
 each-kept f p k [] h = refl
-each-kept f p k (b ∷ s) h = rw (k b (and-left (p b) (every p s) h), each-kept f p k s (and-right (p b) (every p s) h))
+each-kept f p k (b ∷ s) h = rw (k b (or-left (p b) (any p s) h), each-kept f p k s (or-right (p b) (any p s) h))
 
 -- ---- the code's own cases
 

@@ -1,7 +1,7 @@
 -- Words that the definitions share: tests on bytes, texts as bytes, and what is made of each byte. Assumes nothing.
 use mathlib.Core.Bool.{Bool, true, false, cond, _&&_, _||_}
 use mathlib.Core.List.{List, [], _∷_, _++_}
-use Prim.Native.Nat.{ℕ, _+_, _-_}
+use Prim.Native.Nat.{ℕ, _+_, _-_, _/_, _%_, _^_}
 use Prim.Native.Char.{Char, code}
 use Prim.Native.String as S
 use Prim.Native.String.{String}
@@ -28,6 +28,10 @@ oneOf (m ∷ ms) b = eqb b m || oneOf ms b
 abbrev pub all : (ℕ → Bool) → List ℕ → Bool
 all f [] = true
 all f (b ∷ bs) = f b && all f bs
+
+abbrev pub any : (ℕ → Bool) → List ℕ → Bool
+any f [] = false
+any f (b ∷ bs) = f b || any f bs
 
 -- whether two byte strings are the same
 abbrev pub same : List ℕ → List ℕ → Bool
@@ -63,3 +67,7 @@ isDigit b = between 48 57 b
 
 abbrev pub isAlnum : ℕ → Bool
 isAlnum b = isDigit b || between 65 90 b || between 97 122 b
+
+-- whether bit k of a mask is set
+abbrev pub hasBit : ℕ → ℕ → Bool
+hasBit mask k = eqb (mask / 2 ^ k % 2) 1

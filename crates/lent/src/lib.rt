@@ -1,9 +1,10 @@
 // Writing into a lent buffer: the place behind the last byte goes in and comes out. A place past the buffer's end says that
 // something had no room, and stays so; callers need no test between two writes.
-ghost use Prim.Native.Nat.{_+_, _-_, _≤_};
+ghost use Prim.Native.Nat.{_+_, _-_, _≤_, _<_};
 ghost use mathlib.Core.List.{[], _∷_, _++_};
 ghost use mathlib.Core.Path.{_≡_};
 ghost use lib.ListN.{length, take};
+ghost use Rattle.lent.specs.Bytes.{hasBit};
 ghost use Rattle.lent.specs.Fill.{fill, zeros, Filled};
 
 // Appends one byte.
@@ -57,4 +58,12 @@ pub fn clear(out: &mut [u8], from: usize)
         out[i] = 0;
         i += 1;
     }
+}
+
+// A set of numbers below 64, as the bits of a mask: whether k is one of them.
+pub fn has_bit(mask: u64, k: u8) -> bool
+    requires { ⌜ k < 64 ⌝ }
+    ensures { λ r. ⌜ r ≡ hasBit mask k ⌝ }
+{
+    (mask >> k) % 2 == 1
 }

@@ -53,7 +53,12 @@ pub fn sanitize_link(url: &[u8], out: &mut [u8]) -> Written
     match take_text(url) {
         Taken::Refused(w) => refuse(out, w),
         Taken::Yes => {
-            let end = sanitize_uri::sanitize_with_protocols(url, sanitize_uri::Protocols::Link, out, 0);
+            let end = sanitize_uri::sanitize_with_protocols(
+                url,
+                sanitize_uri::Protocols::Link,
+                out,
+                0,
+            );
             finish(out, end)
         }
     }
@@ -66,7 +71,12 @@ pub fn sanitize_image(url: &[u8], out: &mut [u8]) -> Written
     match take_text(url) {
         Taken::Refused(w) => refuse(out, w),
         Taken::Yes => {
-            let end = sanitize_uri::sanitize_with_protocols(url, sanitize_uri::Protocols::Image, out, 0);
+            let end = sanitize_uri::sanitize_with_protocols(
+                url,
+                sanitize_uri::Protocols::Image,
+                out,
+                0,
+            );
             finish(out, end)
         }
     }

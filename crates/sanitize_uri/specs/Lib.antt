@@ -1,2 +1,3 @@
+pub mod Private
 pub mod Protocols
 pub mod Url

@@ -12,7 +12,7 @@ use lib.ListN.{length}
 use Rattle.utf8.specs.declared.Due.the-variants.{First, More}
 use Rattle.utf8.specs.Utf8.{afterFirst, afterMore, run, isWhole, isUtf8, isScalar, tail, charOf, Characters, none, one}
 use Rattle.utf8.specs.Private.{secondFrom, secondTo}
-use Rattle.utf8.proofs.Computed.{within, from, to, bounded}
+use Rattle.lent.proofs.Computed.{within, from, to, bounded}
 use Rattle.utf8.proofs.Table.{ascii-due, low-wrong, high-wrong, two-due, three-due, four-due}
 use Rattle.utf8.proofs.Run.{never-whole, taken}
 use Rattle.utf8.proofs.Laws.{empty, joined}

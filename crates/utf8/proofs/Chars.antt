@@ -13,7 +13,7 @@ use Rattle.lent.specs.Bytes.{if_then_else_, between}
 use Rattle.utf8.specs.declared.Due.the-variants.{First, More}
 use Rattle.utf8.specs.Utf8.{afterFirst, afterMore, run, isUtf8, isScalar, tail, charOf, replacement}
 use Rattle.utf8.specs.Private.{secondFrom, secondTo}
-use Rattle.utf8.proofs.Computed.{is-true, within, from, to}
+use Rattle.lent.proofs.Computed.{is-true, within, from, to}
 use Rattle.utf8.proofs.Table.{ascii-due, two-due, three-due, four-due}
 use Rattle.utf8.proofs.Laws.{of-first}
 

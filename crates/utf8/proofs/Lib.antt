@@ -1,4 +1,3 @@
-pub mod Computed
 pub mod Table
 pub mod Run
 pub mod Walk

@@ -9,7 +9,7 @@ use Rattle.lent.specs.Bytes.{if_then_else_, between}
 use Rattle.utf8.specs.declared.Due.{Due}
 use Rattle.utf8.specs.declared.Due.the-variants.{First, More, Wrong}
 use Rattle.utf8.specs.Utf8.{afterMore, next, run, isWhole, isContinuation}
-use Rattle.utf8.proofs.Computed.{and-left, and-right, within, from, to}
+use Rattle.lent.proofs.Computed.{and-left, and-right, within, from, to}
 use Rattle.utf8.proofs.Table.{isSound, sound-first, continuation-wrong}
 
 pub run-append : (d : Due) (s t : List ℕ) → run d (s ++ t) ≡ run (run d s) t

@@ -15,7 +15,7 @@ use Rattle.utf8.specs.declared.Due.{Due}
 use Rattle.utf8.specs.declared.Due.the-variants.{First, More, Wrong}
 use Rattle.utf8.specs.Utf8.{afterFirst, lengthOf, isContinuation}
 use Rattle.utf8.specs.Private.{secondFrom, secondTo}
-use Rattle.utf8.proofs.Computed.{and-left, and-right, from, to, allBelow, computed, ranged, bounded}
+use Rattle.lent.proofs.Computed.{and-left, and-right, from, to, allBelow, computed, ranged, bounded}
 
 -- ---- a character's length by the count of its first byte's leading ones
 

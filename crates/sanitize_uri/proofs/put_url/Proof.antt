@@ -1,31 +1,28 @@
 -- The loop's invariant: what is left is to append the URL's bytes from `i` on. Assumes nothing.
-use Prim.Native.Nat.{_-_}
+use Prim.Native.Nat.{_-_, _≤_}
 use lib.ListN.{length, drop}
-use Rattle.lent.proofs.Laws.{Left, all, step, done}
+use Rattle.lent.proofs.Laws.{Left, all, step, last, same}
 use Rattle.encode.specs.Encode.{encodeOf}
 use Rattle.sanitize_uri.specs.Url.{normalizeOf}
-use Rattle.sanitize_uri.proofs.Laws.{more, end}
+use Rattle.sanitize_uri.proofs.Laws.{block-more, block-last}
 use borrow.Author.Needs.{needs}
 use Rattle.sanitize_uri.proofs.put_url.Statement.{statement}
 use Rattle.sanitize_uri.proofs.put_url.Tie as tie
 
 abbrev Inv-loop : tie.InvT-loop
-Inv-loop value encode-html out₀ at r₀ i₀ out r i = Left out₀ at (encodeOf encode-html (normalizeOf value)) out r (encodeOf encode-html (normalizeOf (drop i value)))
+Inv-loop value encode-html out₀ at r₀ i₀ out r i = (i ≤ length value) × Left out₀ at (encodeOf encode-html (normalizeOf value)) out r (encodeOf encode-html (normalizeOf (drop i value)))
 
 abbrev μ-loop : tie.MeasureT-loop
 μ-loop value encode-html out₀ at r₀ i₀ out r i = length value - i
 
 loop-holds : tie.Need-loop-holds Inv-loop μ-loop
-loop-holds c = all
+loop-holds c = (search needs, all)
 
-is-staying-requires : tie.Need-is-staying-requires Inv-loop μ-loop
-is-staying-requires c κs = search needs
+sub-loop : tie.Need-sub-loop Inv-loop μ-loop
+sub-loop c = search needs
 
-shared-slice-read-put-url-byte : tie.Need-shared-slice-read-put-url-byte Inv-loop μ-loop
-shared-slice-read-put-url-byte c = search needs
-
-put-url-byte-requires : tie.Need-put-url-byte-requires Inv-loop μ-loop
-put-url-byte-requires c κs = search needs
+put-block-requires : tie.Need-put-block-requires Inv-loop μ-loop
+put-block-requires c κs = search needs
 
 add-i : tie.Need-add-i Inv-loop μ-loop
 add-i c = search needs
@@ -34,13 +31,16 @@ loop-less : tie.Need-loop-less Inv-loop μ-loop
 loop-less c = search needs
 
 loop-again : tie.Need-loop-again Inv-loop μ-loop
-loop-again c = search (step, more)
+loop-again c = (search needs, search (step, block-more))
+
+put-part-requires : tie.Need-put-part-requires Inv-loop μ-loop
+put-part-requires c κs = search needs
 
 same-length : tie.Need-same-length Inv-loop μ-loop
 same-length c = search needs
 
 returns : tie.Need-returns Inv-loop μ-loop
-returns c = search (done, end)
+returns c = search (last, same, block-last)
 
 pub put-url-spec : {M : Type 1} → statement M
 put-url-spec =
@@ -49,11 +49,11 @@ put-url-spec =
     Inv-loop
     μ-loop
     loop-holds
-    is-staying-requires
-    shared-slice-read-put-url-byte
-    put-url-byte-requires
+    sub-loop
+    put-block-requires
     add-i
     loop-less
     loop-again
+    put-part-requires
     same-length
     returns)

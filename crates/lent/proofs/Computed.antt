@@ -1,12 +1,12 @@
 -- What holds of each number below n by computation, and tests as facts. Assumes nothing.
 use mathlib.Core.Path.{_≡_, refl, sym, subst}
 use mathlib.Core.Logic.{⊎-elim}
-use mathlib.Core.Bool.{Bool, true, false, _&&_, _||_}
+use mathlib.Core.Bool.{Bool, true, false, _&&_, _||_, Bool·beq}
 use Prim.Native.Nat.{ℕ, zero, suc, suc-le-suc, _≤_, _<_}
 use native.Mathlib.Nat.{le-of-suc-le-suc, not-suc-le-zero, eq-or-lt-of-le}
 use borrow.Author.Tests.{le-ltb}
 use lib.Dec.{T, leb, ltb, leb→le, le→leb}
 use Rattle.lent.specs.Bytes.{between}
 
 -- ---- tests
 
@@ -53,3 +53,13 @@ ranged lo hi f t k h l = let u = computed (λ k. ltb k lo || f k) (suc hi) t k (
 
 pub bounded : (lo hi : ℕ) (f g : ℕ → ℕ) → T (allBelow (suc hi) (λ k. ltb k lo || leb (f k) (g k))) → (k : ℕ) → lo ≤ k → k ≤ hi → f k ≤ g k
 bounded lo hi f g t k h l = leb→le (f k) (g k) (ranged lo hi (λ k. leb (f k) (g k)) t k h l)
+
+-- two tests that agree by computation agree
+same-test : (a b : Bool) → T (Bool·beq a b) → a ≡ b
+same-test true true t = refl
+same-test false false t = refl
+same-test true false t = absurd t
+same-test false true t = absurd t
+
+pub agree : (f g : ℕ → Bool) (n : ℕ) → T (allBelow n (λ k. Bool·beq (f k) (g k))) → (k : ℕ) → k < n → f k ≡ g k
+agree f g n t k h = same-test (f k) (g k) (computed (λ k. Bool·beq (f k) (g k)) n t k h)

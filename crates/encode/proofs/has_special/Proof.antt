@@ -1,0 +1,56 @@
+-- The loop's invariant: what was seen and what is left make up the answer. Assumes nothing.
+use mathlib.Core.Path.{_≡_}
+use mathlib.Core.Bool.{_||_}
+use Prim.Native.Nat.{_+_, _-_}
+use lib.ListN.{take, drop}
+use Rattle.lent.specs.Bytes.{any}
+use Rattle.lent.proofs.Laws.{any-start, any-more, any-end}
+use Rattle.encode.specs.Private.{isSpecial}
+use borrow.Author.Needs.{needs}
+use Rattle.encode.proofs.has_special.Statement.{statement}
+use Rattle.encode.proofs.has_special.Tie as tie
+
+abbrev Inv-loop : tie.InvT-loop
+Inv-loop value i encode-html found₀ k₀ found k = (found || any (isSpecial encode-html) (take (16 - k) (drop (i + k) value))) ≡ any (isSpecial encode-html) (take 16 (drop i value))
+
+abbrev μ-loop : tie.MeasureT-loop
+μ-loop value i encode-html found₀ k₀ found k = 16 - k
+
+loop-holds : tie.Need-loop-holds Inv-loop μ-loop
+loop-holds c = search any-start
+
+add-is-one-special : tie.Need-add-is-one-special Inv-loop μ-loop
+add-is-one-special c = search needs
+
+shared-slice-read-is-one-special : tie.Need-shared-slice-read-is-one-special Inv-loop μ-loop
+shared-slice-read-is-one-special c = search needs
+
+is-one-special-requires : tie.Need-is-one-special-requires Inv-loop μ-loop
+is-one-special-requires c κs = search needs
+
+add-k : tie.Need-add-k Inv-loop μ-loop
+add-k c = search needs
+
+loop-less : tie.Need-loop-less Inv-loop μ-loop
+loop-less c = search needs
+
+loop-again : tie.Need-loop-again Inv-loop μ-loop
+loop-again c = search any-more
+
+returns : tie.Need-returns Inv-loop μ-loop
+returns c = search any-end
+
+pub has-special-spec : {M : Type 1} → statement M
+has-special-spec =
+    tie.close
+    (tie.spec
+    Inv-loop
+    μ-loop
+    loop-holds
+    add-is-one-special
+    shared-slice-read-is-one-special
+    is-one-special-requires
+    add-k
+    loop-less
+    loop-again
+    returns)

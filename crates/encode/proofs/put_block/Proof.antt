@@ -1,0 +1,71 @@
+-- Byte by byte, or copied. Assumes nothing.
+use Rattle.lent.proofs.Laws.{same}
+use Rattle.encode.proofs.Laws.{plain-block, other-block}
+use borrow.Author.Needs.{needs}
+use Rattle.encode.proofs.put_block.Statement.{statement}
+use Rattle.encode.proofs.put_block.Tie as tie
+
+has-special-requires : tie.Need-has-special-requires
+has-special-requires c κs = search needs
+
+add-put-bytes : tie.Need-add-put-bytes
+add-put-bytes c = search needs
+
+sub-put-bytes : tie.Need-sub-put-bytes
+sub-put-bytes c = search needs
+
+part-put-bytes-start : tie.Need-part-put-bytes-start
+part-put-bytes-start c = search needs
+
+part-put-bytes-end : tie.Need-part-put-bytes-end
+part-put-bytes-end c = search needs
+
+put-bytes-requires : tie.Need-put-bytes-requires
+put-bytes-requires c κs = search needs
+
+same-length : tie.Need-same-length
+same-length c = search needs
+
+returns : tie.Need-returns
+returns c = search (same, other-block)
+
+add-put-all : tie.Need-add-put-all
+add-put-all c = search needs
+
+sub-put-all : tie.Need-sub-put-all
+sub-put-all c = search needs
+
+part-put-all-start : tie.Need-part-put-all-start
+part-put-all-start c = search needs
+
+part-put-all-end : tie.Need-part-put-all-end
+part-put-all-end c = search needs
+
+put-all-requires : tie.Need-put-all-requires
+put-all-requires c κs = search needs
+
+same-length-2 : tie.Need-same-length-2
+same-length-2 c = search needs
+
+returns-2 : tie.Need-returns-2
+returns-2 c = search (same, plain-block)
+
+pub put-block-spec : {M : Type 1} → statement M
+put-block-spec =
+    tie.close
+    (tie.spec
+    has-special-requires
+    add-put-bytes
+    sub-put-bytes
+    part-put-bytes-start
+    part-put-bytes-end
+    put-bytes-requires
+    same-length
+    returns
+    add-put-all
+    sub-put-all
+    part-put-all-start
+    part-put-all-end
+    put-all-requires
+    same-length-2
+    returns-2)

@@ -1,0 +1,54 @@
+-- The loop's invariant: what is left is to append the bytes from `i` on. Assumes nothing.
+use Prim.Native.Nat.{_-_}
+use lib.ListN.{length, drop}
+use Rattle.lent.proofs.Laws.{Left, all, step, done}
+use Rattle.encode.specs.Encode.{encodeOf}
+use Rattle.encode.proofs.Laws.{byte-more, byte-end}
+use borrow.Author.Needs.{needs}
+use Rattle.encode.proofs.put_bytes.Statement.{statement}
+use Rattle.encode.proofs.put_bytes.Tie as tie
+
+abbrev Inv-loop : tie.InvT-loop
+Inv-loop value encode-html out₀ at r₀ i₀ out r i = Left out₀ at (encodeOf encode-html value) out r (encodeOf encode-html (drop i value))
+
+abbrev μ-loop : tie.MeasureT-loop
+μ-loop value encode-html out₀ at r₀ i₀ out r i = length value - i
+
+loop-holds : tie.Need-loop-holds Inv-loop μ-loop
+loop-holds c = all
+
+shared-slice-read-put-byte : tie.Need-shared-slice-read-put-byte Inv-loop μ-loop
+shared-slice-read-put-byte c = search needs
+
+put-byte-requires : tie.Need-put-byte-requires Inv-loop μ-loop
+put-byte-requires c κs = search needs
+
+add-i : tie.Need-add-i Inv-loop μ-loop
+add-i c = search needs
+
+loop-less : tie.Need-loop-less Inv-loop μ-loop
+loop-less c = search needs
+
+loop-again : tie.Need-loop-again Inv-loop μ-loop
+loop-again c = search (step, byte-more)
+
+same-length : tie.Need-same-length Inv-loop μ-loop
+same-length c = search needs
+
+returns : tie.Need-returns Inv-loop μ-loop
+returns c = search (done, byte-end)
+
+pub put-bytes-spec : {M : Type 1} → statement M
+put-bytes-spec =
+    tie.close
+    (tie.spec
+    Inv-loop
+    μ-loop
+    loop-holds
+    shared-slice-read-put-byte
+    put-byte-requires
+    add-i
+    loop-less
+    loop-again
+    same-length
+    returns)

@@ -1,0 +1,130 @@
+#!/usr/bin/env python3
+"""Prints the states of crates/nesting/specs/Tables.antt and the tables of crates/nesting/src/lib.rt, from 01's rules of nesting.
+
+python3 tools/nesting_tables.py
+"""
+NAMES = 66
+REFUSED = 255
+FLOW = [12, 13, 16, 19, 20, 21, 22, 27, 28, 35, 53, 57, 63]
+INLINE = [5, 6, 7, 33, 37, *range(39, 47), 62]
+PLAIN = [5, 6, 7]
+GROUPS = {tuple(FLOW): 'flow', tuple(INLINE): 'inline', tuple(PLAIN): 'plain'}
+
+# the same element in another place: 23 and 24 in 22, the second 29, 47 under 62
+OTHER = {66: 23, 67: 24, 68: 29, 69: 47}
+
+
+def one(*kinds): return ('one', kinds)
+def opt(*kinds): return ('opt', kinds)
+def any_of(kinds): return ('any', tuple(kinds))
+def some(*kinds): return ('some', kinds)
+def chain(*kinds): return ('chain', kinds)
+
+
+RULES = [
+    ([20], [any_of(FLOW)]),
+    ([12, 15, 17, 39, 40, 48, 61], [any_of(INLINE)]),
+    ([30, 31, 50, 51, 52, 54, 55, 56, 65], [any_of(PLAIN)]),
+    ([7], [one(8), chain(9, 10), one(11)]),
+    ([13], [one(14), opt(15), opt(14)]),
+    ([16], [one(17), one(18)]),
+    ([21], [some(23)]),
+    ([22], [some(66)]),
+    ([23], [one(24), any_of(FLOW)]),
+    ([66], [one(67), any_of(FLOW)]),
+    ([24], [one(26), one(25)]),
+    ([67], [one(25)]),
+    ([27], [any_of([32])]),
+    ([28], [one(29), any_of([32]), opt(68)]),
+    ([29], [opt(30), opt(31)]),
+    ([33], [any_of([34])]),
+    ([35], [any_of([36])]),
+    ([37], [any_of([38])]),
+    ([45, 46], [one(47), opt(49, 52)]),
+    ([62], [one(69)]),
+    ([47], [opt(48)]),
+    ([69], [one(48)]),
+    ([49], [opt(50), opt(51)]),
+    ([53], [one(54), opt(55), opt(56)]),
+    ([57], [one(58), opt(59)]),
+    ([58], [one(60)]),
+    ([59], [some(60)]),
+    ([60], [any_of([61])]),
+    ([63], [one(64), any_of(FLOW)]),
+    ([64], [one(65)]),
+]
+HOLDS = {kind: tuple(items) for kinds, items in RULES for kind in kinds}
+
+
+def after(items, name):
+    """The kind of a child of this name and what is left behind it, or None."""
+    if not items:
+        return None
+    (sort, kinds), left = items[0], items[1:]
+    if sort == 'chain':
+        if kinds and OTHER.get(kinds[0], kinds[0]) == name:
+            return kinds[0], (chain(*kinds[1:]), *left)
+        return after(left, name)
+    for kind in kinds:
+        if OTHER.get(kind, kind) == name:
+            return kind, (any_of(kinds), *left) if sort in ('any', 'some') else left
+    return after(left, name) if sort in ('opt', 'any') else None
+
+
+def may_end(items):
+    return all(sort not in ('one', 'some') for sort, _ in items)
+
+
+def states():
+    """What is left to come: None in 3 and 4, the whole list, nothing, and each rule from its start on."""
+    found = [None, (any_of(FLOW),), ()]
+
+    def add(items):
+        if items not in found:
+            found.append(items)
+        for name in range(NAMES):
+            step = after(items, name)
+            if step and step[1] not in found:
+                add(step[1])
+    for _, items in RULES:
+        add(tuple(items))
+    return found
+
+
+def turn(items, name):
+    """What may come in an element of this name and behind it, or None where it is refused."""
+    if items is None:
+        return None
+    if name <= 2:
+        return items, items
+    if name <= 4:
+        return None, items
+    step = after(items, name)
+    return step and (HOLDS.get(step[0], ()), step[1])
+
+
+def shown(state):
+    if state is None:
+        return 'shut'
+    def kinds(ks): return GROUPS.get(ks) or '(' + ' ∷ '.join([*map(str, ks), '[]']) + ')' if ks else '[]'
+    items = [f'{sort} {kinds(ks)}' for sort, ks in state]
+    return 'rest (' + ' ∷ '.join([*items, '[]']) + ')' if items else 'rest []'
+
+
+def constant(name, rows):
+    size = sum(map(len, rows))
+    lines = ''.join('    ' + ''.join(f'\\x{b:02x}' for b in row) + '\\\n' for row in rows)
+    return f'const {name}: [u8; {size}] = *b"\\\n{lines}";'
+
+
+def main():
+    found = states()
+    number = {state: q for q, state in enumerate(found)}
+    turns = [[turn(state, name) for name in range(NAMES)] for state in found]
+    print('states =\n    ' + '\n    ∷ '.join([*map(shown, found), '[]']), end='\n\n')
+    print(constant('NEXT', [[number[t[1]] if t else REFUSED for t in row] for row in turns]), end='\n\n')
+    print(constant('START', [[number[t[0]] if t else 0 for t in row] for row in turns]), end='\n\n')
+    print(constant('DONE', [[1 if state is None or may_end(state) else 0 for state in found]]))
+
+
+main()

@@ -1,0 +1,461 @@
+// Document 01's note bundle, read by itself: packing, reading, and the cases on which op 8 of `calls` is compared.
+use crate::random::Random;
+use std::io::{Read, Write};
+use std::process::{Command, Stdio};
+use std::thread;
+use std::time::Instant;
+
+const BLOCK: usize = 512;
+const PAYLOAD: std::ops::Range<usize> = 8..508;
+const CHECK: usize = 508;
+const RECORD: usize = 20;
+const SEED: u64 = 20_251_115;
+
+// ---- 01's section "Note bundle"
+
+/// What the reader answers: the text, the events and the edition, or a refusal's number and place.
+#[derive(Debug, PartialEq)]
+pub enum Answer {
+    Bundle { text: Vec<u8>, events: Vec<u8>, edition: u32 },
+    Refused { number: u32, place: u32 },
+}
+
+/// Header, text blocks, event blocks. The events are whole records.
+pub fn pack(text: &[u8], events: &[u8], edition: u32) -> Vec<u8> {
+    let mut header = (text.len() as u32).to_le_bytes().to_vec();
+    header.extend((events.len() as u32 / RECORD as u32).to_le_bytes());
+    let text_blocks = text.chunks(500).map(|payload| (2, payload));
+    let event_blocks = events.chunks(25 * RECORD).map(|payload| (3, payload));
+    let mut bundle = Vec::new();
+    for (kind, payload) in [(1, &header[..])].into_iter().chain(text_blocks).chain(event_blocks) {
+        let number = (bundle.len() / BLOCK) as u16;
+        let mut block = [0; BLOCK];
+        block[0..4].copy_from_slice(&edition.to_le_bytes());
+        block[4..6].copy_from_slice(&number.to_le_bytes());
+        block[6] = kind;
+        block[PAYLOAD][..payload.len()].copy_from_slice(payload);
+        mend(&mut block);
+        bundle.extend(block);
+    }
+    bundle
+}
+
+/// The sum of (place + 1) times byte over places 0 to 507.
+fn check(block: &[u8]) -> u32 {
+    (1..).zip(&block[..CHECK]).map(|(weight, &byte)| weight * u32::from(byte)).sum()
+}
+
+fn mend(block: &mut [u8]) {
+    let sum = check(block);
+    block[CHECK..BLOCK].copy_from_slice(&sum.to_le_bytes());
+}
+
+fn word(bytes: &[u8], at: usize) -> u32 {
+    u32::from_le_bytes(bytes[at..at + 4].try_into().unwrap())
+}
+
+pub fn read(bytes: &[u8], text_room: usize, event_room: usize) -> Answer {
+    match read_blocks(bytes, text_room, event_room) {
+        Ok((text, events)) => Answer::Bundle { text, events, edition: word(bytes, 0) },
+        Err((number, place)) => Answer::Refused { number, place: place as u32 },
+    }
+}
+
+fn read_blocks(bytes: &[u8], text_room: usize, event_room: usize) -> Result<(Vec<u8>, Vec<u8>), (u32, usize)> {
+    if text_room < 64_000 || event_room < 64_000 {
+        return Err((1, 0));
+    }
+    if bytes.is_empty() || bytes.len() % BLOCK != 0 {
+        return Err((10, 0));
+    }
+    let edition = word(bytes, 0);
+    judge(&bytes[..BLOCK], 0, edition, 1, 8)?;
+    let (length, count) = (word(bytes, 8) as usize, word(bytes, 12) as usize);
+    if length > 64_000 || count > 3_200 {
+        return Err((10, 0));
+    }
+    if bytes.len() / BLOCK != 1 + length.div_ceil(500) + count.div_ceil(25) {
+        return Err((10, 0));
+    }
+    let (mut text, mut events) = (Vec::new(), Vec::new());
+    for (number, block) in bytes.chunks(BLOCK).enumerate().skip(1) {
+        let (to, kind, whole) =
+            if text.len() < length { (&mut text, 2, length) } else { (&mut events, 3, count * RECORD) };
+        let used = (whole - to.len()).min(500);
+        judge(block, number, edition, kind, used)?;
+        to.extend(&block[PAYLOAD][..used]);
+    }
+    Ok((text, events))
+}
+
+/// A block by itself: 11, 12, 10.
+fn judge(block: &[u8], number: usize, edition: u32, kind: u8, used: usize) -> Result<(), (u32, usize)> {
+    if word(block, CHECK) != check(block) {
+        return Err((11, number));
+    }
+    if word(block, 0) != edition {
+        return Err((12, number));
+    }
+    let numbered = usize::from(u16::from_le_bytes([block[4], block[5]])) == number;
+    let unused = block[PAYLOAD][used..].iter().all(|&byte| byte == 0);
+    if !numbered || block[6] != kind || block[7] != 0 || !unused {
+        return Err((10, number));
+    }
+    Ok(())
+}
+
+// ---- a case, as `calls` takes and answers it
+
+#[derive(Clone)]
+pub struct Case {
+    pub bundle: Vec<u8>,
+    pub text_room: usize,
+    pub event_room: usize,
+}
+
+impl Case {
+    /// With the least buffers that are taken.
+    fn of(bundle: Vec<u8>) -> Self {
+        Case { bundle, text_room: 64_000, event_room: 64_000 }
+    }
+
+    /// Adds the request: a header of 32 bytes, and the bundle as its text.
+    pub fn write(&self, to: &mut Vec<u8>) {
+        let lengths = [self.bundle.len(), 0, self.text_room, self.event_room];
+        to.extend([8, 0, 0, 0]);
+        to.extend(lengths.iter().flat_map(|&length| (length as u32).to_le_bytes()));
+        to.extend([0; 12]);
+        to.extend(&self.bundle);
+    }
+
+    /// All that `calls` has to write: a header of 24 bytes, and both buffers.
+    pub fn expected(&self) -> Vec<u8> {
+        let (fields, text, events) = match read(&self.bundle, self.text_room, self.event_room) {
+            Answer::Bundle { text, events, edition } => {
+                ([0, text.len() as u32, events.len() as u32, edition], text, events)
+            }
+            Answer::Refused { number, place } => ([number, place, 0, 0], Vec::new(), Vec::new()),
+        };
+        let rooms = [self.text_room as u32, self.event_room as u32];
+        let mut answer: Vec<u8> = fields.iter().chain(&rooms).flat_map(|field| field.to_le_bytes()).collect();
+        for (bytes, room) in [(text, self.text_room), (events, self.event_room)] {
+            let end = answer.len() + room;
+            answer.extend(bytes);
+            answer.resize(end, 0);
+        }
+        answer
+    }
+}
+
+// ---- families of cases, each in an order that never changes
+
+pub type Ask<'a> = &'a mut dyn FnMut(Case);
+
+pub const FAMILIES: [(&str, fn(Ask)); 9] = [
+    ("good", good),
+    ("cut", cut),
+    ("bytes", bytes),
+    ("header", header),
+    ("blocks", blocks),
+    ("rooms", rooms),
+    ("largest", largest),
+    ("outside", outside),
+    ("random", random),
+];
+
+const TEXT_LENGTHS: [usize; 11] = [0, 1, 499, 500, 501, 999, 1_000, 1_001, 63_500, 63_999, 64_000];
+const EVENT_COUNTS: [usize; 9] = [0, 1, 24, 25, 26, 49, 50, 3_199, 3_200];
+const EDITIONS: [u32; 5] = [0, 1, 0x0102_0304, 0x8000_0000, u32::MAX];
+
+fn noise(random: &mut Random, length: usize) -> Vec<u8> {
+    (0..length).map(|_| random.below(256) as u8).collect()
+}
+
+fn bundle(random: &mut Random, text: usize, events: usize) -> Vec<u8> {
+    let (text, events) = (noise(random, text), noise(random, events * RECORD));
+    pack(&text, &events, random.pick(&EDITIONS))
+}
+
+/// Bundles of every shape: no block of a kind, one that is not full, one that is, and more.
+fn shapes(random: &mut Random) -> Vec<Vec<u8>> {
+    let sizes = [(0, 0), (3, 0), (0, 1), (3, 1), (500, 25), (501, 26), (1_100, 60)];
+    sizes.iter().map(|&(text, events)| bundle(random, text, events)).collect()
+}
+
+/// Every pair of lengths about the borders of blocks, read back to what was packed.
+fn good(ask: Ask) {
+    let mut random = Random(SEED);
+    for length in TEXT_LENGTHS {
+        for count in EVENT_COUNTS {
+            let (text, events) = (noise(&mut random, length), noise(&mut random, count * RECORD));
+            let edition = random.pick(&EDITIONS);
+            let bundle = pack(&text, &events, edition);
+            assert_eq!(read(&bundle, 64_000, 64_000), Answer::Bundle { text, events, edition });
+            ask(Case::of(bundle));
+        }
+    }
+}
+
+/// Cut, and lengthened, at each length about each border; one bundle at every length.
+fn cut(ask: Ask) {
+    let mut random = Random(SEED + 1);
+    for bundle in shapes(&mut random) {
+        for border in (0..=bundle.len() + BLOCK).step_by(BLOCK) {
+            for length in border.saturating_sub(5)..border + 6 {
+                let mut other = bundle.clone();
+                other.resize(length, 0);
+                ask(Case::of(other));
+            }
+        }
+    }
+    let bundle = bundle(&mut random, 3, 1);
+    for length in 0..=bundle.len() {
+        ask(Case::of(bundle[..length].to_vec()));
+    }
+}
+
+/// Each byte of bundles of each shape changed, with the check mended and not.
+fn bytes(ask: Ask) {
+    let mut random = Random(SEED + 2);
+    for bundle in shapes(&mut random) {
+        for at in 0..bundle.len() {
+            let place = at % BLOCK;
+            let border = place < 24 || place > 500 || bundle.len() <= 3 * BLOCK;
+            for change in [1, 0x80, 0xFF] {
+                if border || change == 1 {
+                    ask(Case::of(changed(&bundle, at, change, true)));
+                    ask(Case::of(changed(&bundle, at, change, false)));
+                }
+            }
+        }
+    }
+}
+
+fn changed(bundle: &[u8], at: usize, change: u8, mended: bool) -> Vec<u8> {
+    let mut other = bundle.to_vec();
+    other[at] ^= change;
+    if mended {
+        let start = at / BLOCK * BLOCK;
+        mend(&mut other[start..start + BLOCK]);
+    }
+    other
+}
+
+/// The header's two lengths set to numbers about every border and limit, mended.
+fn header(ask: Ask) {
+    let mut random = Random(SEED + 3);
+    let about = |n: u32| [n.wrapping_sub(1), n, n.wrapping_add(1)];
+    for bundle in shapes(&mut random) {
+        let text = word(&bundle, 8);
+        let count = word(&bundle, 12);
+        for at in [8, 12] {
+            for border in [0, 25, 500, 1_000, 3_200, 64_000, 0x1_0000, 0x100_0000, 0x8000_0000, text, count] {
+                for number in about(border) {
+                    let mut other = bundle.clone();
+                    other[at..at + 4].copy_from_slice(&number.to_le_bytes());
+                    mend(&mut other[..BLOCK]);
+                    ask(Case::of(other));
+                }
+            }
+        }
+    }
+}
+
+/// Blocks swapped, doubled, missing, of another edition, of another kind and renumbered.
+fn blocks(ask: Ask) {
+    let mut random = Random(SEED + 4);
+    for bundle in shapes(&mut random) {
+        let other_edition = word(&bundle, 0) ^ 0x0100;
+        let split: Vec<Vec<u8>> = bundle.chunks(BLOCK).map(<[u8]>::to_vec).collect();
+        let mut ask_blocks = |blocks: &[Vec<u8>]| ask(Case::of(blocks.concat()));
+        for one in 0..split.len() {
+            for other in 0..split.len() {
+                let mut swapped = split.clone();
+                swapped.swap(one, other);
+                ask_blocks(&swapped);
+                let mut doubled = split.clone();
+                doubled.insert(other, split[one].clone());
+                ask_blocks(&doubled);
+                let mut replaced = split.clone();
+                replaced[other] = split[one].clone();
+                ask_blocks(&replaced);
+                // renumbered, so that only the kind or the count can be wrong
+                for blocks in [&mut swapped, &mut doubled, &mut replaced] {
+                    for (number, block) in blocks.iter_mut().enumerate() {
+                        block[4..6].copy_from_slice(&(number as u16).to_le_bytes());
+                        mend(block);
+                    }
+                    ask_blocks(blocks);
+                }
+            }
+            let mut missing = split.clone();
+            missing.remove(one);
+            ask_blocks(&missing);
+            for mended in [true, false] {
+                let mut blocks = split.clone();
+                blocks[one][0..4].copy_from_slice(&other_edition.to_le_bytes());
+                if mended {
+                    mend(&mut blocks[one]);
+                }
+                ask_blocks(&blocks);
+            }
+            for kind in 0..=5 {
+                let mut blocks = split.clone();
+                blocks[one][6] = kind;
+                mend(&mut blocks[one]);
+                ask_blocks(&blocks);
+            }
+        }
+    }
+}
+
+/// Buffers about the least length, with bundles that are good and that are not.
+fn rooms(ask: Ask) {
+    let mut random = Random(SEED + 5);
+    let lengths = [0, 1, 500, 63_999, 64_000, 64_001, 70_001, 131_072];
+    let good = bundle(&mut random, 501, 26);
+    let bundles =
+        [good.clone(), changed(&good, 1_000, 1, false), changed(&good, 8, 1, true), good[..700].to_vec(), Vec::new()];
+    for bundle in &bundles {
+        for text_room in lengths {
+            for event_room in lengths {
+                ask(Case { bundle: bundle.clone(), text_room, event_room });
+            }
+        }
+    }
+}
+
+/// The largest bundle, one block more, and a fault in each block.
+fn largest(ask: Ask) {
+    let mut random = Random(SEED + 6);
+    let bundle = bundle(&mut random, 64_000, 3_200);
+    let mut longer = bundle.clone();
+    longer.extend(&bundle[256 * BLOCK..]);
+    ask(Case::of(longer));
+    for block in 0..bundle.len() / BLOCK {
+        let place = random.below(BLOCK);
+        ask(Case::of(changed(&bundle, block * BLOCK + place, 1, false)));
+        ask(Case::of(changed(&bundle, block * BLOCK + random.below(8), 1, true)));
+    }
+}
+
+/// Whole bundles of more than 01's Sizes, with room for all of it.
+fn outside(ask: Ask) {
+    let mut random = Random(SEED + 7);
+    let sizes = [(64_001, 0), (64_500, 1), (64_501, 25), (66_000, 3_200), (0, 3_201), (1, 3_225), (500, 3_226)];
+    for (text, events) in sizes {
+        let bundle = bundle(&mut random, text, events);
+        ask(Case { bundle, text_room: 131_072, event_room: 131_072 });
+    }
+}
+
+/// One to three faults at once on small bundles, so that the order of refusals shows; and blocks of noise.
+fn random(ask: Ask) {
+    let mut random = Random(SEED + 8);
+    for _ in 0..12_000 {
+        let (text, events) = (random.below(1_300), random.below(70));
+        let mut bundle = bundle(&mut random, text, events);
+        for _ in 0..random.below(4) {
+            damage(&mut bundle, &mut random);
+        }
+        ask(Case::of(bundle));
+    }
+    for _ in 0..1_000 {
+        let mut noisy = noise(&mut random, BLOCK * 3);
+        for block in noisy.chunks_mut(BLOCK) {
+            block[4..8].copy_from_slice(&[0, 0, 1, 0]);
+            mend(block);
+        }
+        ask(Case::of(noisy));
+    }
+}
+
+fn damage(bundle: &mut Vec<u8>, random: &mut Random) {
+    if bundle.len() < BLOCK {
+        return;
+    }
+    let start = random.below(bundle.len() / BLOCK) * BLOCK;
+    let places = [0, 3, 4, 5, 6, 7, 8, 9, 12, 13, 16, 100, 507, CHECK, CHECK + 3];
+    match random.below(8) {
+        0 => bundle.truncate(random.below(bundle.len())),
+        1 => bundle.truncate(start),
+        2 => bundle.extend_from_within(start..start + BLOCK),
+        3 => bundle[start + random.below(BLOCK)] = random.below(256) as u8,
+        _ => {
+            bundle[start + random.pick(&places)] ^= 1 << random.below(8);
+            if random.below(4) > 0 {
+                mend(&mut bundle[start..start + BLOCK]);
+            }
+        }
+    }
+}
+
+// ---- the comparison
+
+/// A process is given about this many bytes, requests and answers together.
+const BATCH: usize = 64 << 20;
+
+/// Compares the program with this reading, a line for each family; gives the number of differences.
+pub fn compare(program: &[&str]) -> usize {
+    let mut differences = 0;
+    for (name, cases) in FAMILIES {
+        let began = Instant::now();
+        let (mut batch, mut filled, mut asked, mut wrong) = (Vec::new(), 0, 0, 0);
+        cases(&mut |case: Case| {
+            filled += case.bundle.len() + case.text_room + case.event_room;
+            batch.push(case);
+            asked += 1;
+            if filled > BATCH {
+                wrong += differing(program, &std::mem::take(&mut batch));
+                filled = 0;
+            }
+        });
+        wrong += differing(program, &batch);
+        println!("bundle {name:<8} {asked:>6} cases  {wrong:>3} differences  {:>3} s", began.elapsed().as_secs());
+        differences += wrong;
+    }
+    differences
+}
+
+/// How many answers differ; the first of them is shown.
+fn differing(program: &[&str], batch: &[Case]) -> usize {
+    let mut input = Vec::new();
+    for case in batch {
+        case.write(&mut input);
+    }
+    let came = run(program, input);
+    let (mut at, mut wrong) = (0, 0);
+    for case in batch {
+        let wanted = case.expected();
+        let answer = &came[at.min(came.len())..came.len().min(at + wanted.len())];
+        if answer != wanted {
+            if wrong == 0 {
+                println!("    bundle of {} bytes, rooms {} {}", case.bundle.len(), case.text_room, case.event_room);
+                println!("    wanted {:?}, came {:?}", &wanted[..24], &answer[..answer.len().min(24)]);
+            }
+            wrong += 1;
+        }
+        at += wanted.len();
+    }
+    wrong + usize::from(at < came.len())
+}
+
+/// All that the program writes.
+fn run(program: &[&str], input: Vec<u8>) -> Vec<u8> {
+    let mut child = Command::new(program[0])
+        .args(&program[1..])
+        .env_clear()
+        .stdin(Stdio::piped())
+        .stdout(Stdio::piped())
+        .spawn()
+        .expect("the program can be started");
+    let mut stdin = child.stdin.take().unwrap();
+    let writer = thread::spawn(move || {
+        let _ = stdin.write_all(&input);
+    });
+    let mut came = Vec::new();
+    child.stdout.take().unwrap().read_to_end(&mut came).expect("the program's output can be read");
+    writer.join().unwrap();
+    child.wait().unwrap();
+    came
+}
