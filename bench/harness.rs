@@ -51,7 +51,8 @@ fn rows() -> Vec<Row> {
     let notes = [
         ("plain 16 KB", vec![note(&mut random, 16_384, usize::MAX)]),
         ("prose 16 KB", vec![note(&mut random, 16_384, 60)]),
-        ("code 16 KB", vec![note(&mut random, 16_384, 8)]),
+        ("code, this file", vec![include_str!("harness.rs").to_string()]),
+        ("dense 16 KB", vec![note(&mut random, 16_384, 8)]),
         ("40 bytes", vec![note(&mut random, 40, 20)]),
     ];
     let urls = [

@@ -1,10 +1,11 @@
 // The public calls. Each answers on all inputs, says every byte of the buffer lent to it, and demands nothing of its caller.
 ghost use mathlib.Core.Path.{_≡_};
+ghost use Rattle.lent.specs.Fill.{Filled};
 ghost use Rattle.encode.specs.Encode.{encodeOf};
 ghost use Rattle.sanitize_uri.specs.Url.{sanitizeOf};
 ghost use Rattle.sanitize_uri.specs.Protocols.{linkSchemes, imageSchemes, sanitizeWithProtocolsOf};
 ghost use Rattle.normalize_identifier.specs.Identity.{identityOf};
-ghost use Rattle.page.specs.Written.{numberOf, valueOf, takenOf, Ended, Refuses, Wrote};
+ghost use Rattle.page.specs.Written.{numberOf, valueOf, resultOf, takenOf, Ended, Refuses, Wrote};
 
 // The answer of a call that writes a text: its length, or why nothing was written.
 pub enum Written {
@@ -20,79 +21,48 @@ pub enum Taken {
     Refused(Written),
 }
 
+// What a call makes of its text.
+pub enum Job {
+    Escape(bool),
+    Sanitize,
+    SanitizeLink,
+    SanitizeImage,
+    Identity,
+}
+
 // Escapes a text for HTML; without `encoding` only NUL is replaced.
 pub fn escape(text: &[u8], encoding: bool, out: &mut [u8]) -> Written
     ensures { λ r. ⌜ Wrote (now (text .entry)) (encodeOf encoding (now (text .entry))) (now (out .entry)) (now (out .exit)) r ⌝ }
 {
-    match take_text(text) {
-        Taken::Refused(w) => refuse(out, w),
-        Taken::Yes => {
-            let end = encode::encode(text, encoding, out, 0);
-            finish(out, end)
-        }
-    }
+    write(Job::Escape(encoding), text, out)
 }
 
 // Makes a URL safe for an attribute.
 pub fn sanitize(url: &[u8], out: &mut [u8]) -> Written
     ensures { λ r. ⌜ Wrote (now (url .entry)) (sanitizeOf (now (url .entry))) (now (out .entry)) (now (out .exit)) r ⌝ }
 {
-    match take_text(url) {
-        Taken::Refused(w) => refuse(out, w),
-        Taken::Yes => {
-            let end = sanitize_uri::sanitize(url, out, 0);
-            finish(out, end)
-        }
-    }
+    write(Job::Sanitize, url, out)
 }
 
 // The same for a link: a URL with another scheme than 01's six becomes empty.
 pub fn sanitize_link(url: &[u8], out: &mut [u8]) -> Written
     ensures { λ r. ⌜ Wrote (now (url .entry)) (sanitizeWithProtocolsOf linkSchemes (now (url .entry))) (now (out .entry)) (now (out .exit)) r ⌝ }
 {
-    match take_text(url) {
-        Taken::Refused(w) => refuse(out, w),
-        Taken::Yes => {
-            let end = sanitize_uri::sanitize_with_protocols(
-                url,
-                sanitize_uri::Protocols::Link,
-                out,
-                0,
-            );
-            finish(out, end)
-        }
-    }
+    write(Job::SanitizeLink, url, out)
 }
 
 // The same for an image, whose schemes are http and https.
 pub fn sanitize_image(url: &[u8], out: &mut [u8]) -> Written
     ensures { λ r. ⌜ Wrote (now (url .entry)) (sanitizeWithProtocolsOf imageSchemes (now (url .entry))) (now (out .entry)) (now (out .exit)) r ⌝ }
 {
-    match take_text(url) {
-        Taken::Refused(w) => refuse(out, w),
-        Taken::Yes => {
-            let end = sanitize_uri::sanitize_with_protocols(
-                url,
-                sanitize_uri::Protocols::Image,
-                out,
-                0,
-            );
-            finish(out, end)
-        }
-    }
+    write(Job::SanitizeImage, url, out)
 }
 
 // What a label is compared by.
 pub fn identity(label: &[u8], out: &mut [u8]) -> Written
     ensures { λ r. ⌜ Wrote (now (label .entry)) (identityOf (now (label .entry))) (now (out .entry)) (now (out .exit)) r ⌝ }
 {
-    match take_text(label) {
-        Taken::Refused(w) => refuse(out, w),
-        Taken::Yes => {
-            let end = normalize_identifier::normalize_identifier(label, out, 0);
-            finish(out, end)
-        }
-    }
+    write(Job::Identity, label, out)
 }
 
 // 01's number for an answer.
@@ -116,6 +86,35 @@ pub fn value(w: Written) -> usize
         Written::TooLong => 0,
         Written::NotUtf8 => 0,
         Written::NoRoom => 0,
+    }
+}
+
+// Refused, or written and ended.
+fn write(job: Job, text: &[u8], out: &mut [u8]) -> Written
+    ensures { λ r. ⌜ Wrote (now (text .entry)) (resultOf job (now (text .entry))) (now (out .entry)) (now (out .exit)) r ⌝ }
+{
+    match take_text(text) {
+        Taken::Refused(w) => refuse(out, w),
+        Taken::Yes => {
+            let end = append(job, text, out);
+            finish(out, end)
+        }
+    }
+}
+
+fn append(job: Job, text: &[u8], out: &mut [u8]) -> usize
+    ensures { λ r. ⌜ Filled (now (out .entry)) 0 (resultOf job (now (text .entry))) (now (out .exit)) r ⌝ }
+{
+    match job {
+        Job::Escape(encoding) => encode::encode(text, encoding, out, 0),
+        Job::Sanitize => sanitize_uri::sanitize(text, out, 0),
+        Job::SanitizeLink => {
+            sanitize_uri::sanitize_with_protocols(text, sanitize_uri::Protocols::Link, out, 0)
+        }
+        Job::SanitizeImage => {
+            sanitize_uri::sanitize_with_protocols(text, sanitize_uri::Protocols::Image, out, 0)
+        }
+        Job::Identity => normalize_identifier::normalize_identifier(text, out, 0),
     }
 }
 

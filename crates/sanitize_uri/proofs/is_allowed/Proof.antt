@@ -1,5 +1,5 @@
 -- By the colon, if there is one. Assumes nothing.
-use Rattle.sanitize_uri.proofs.Laws.{colon-inside, allowed-at, allowed-missing}
+use Rattle.sanitize_uri.proofs.Schemes.{colon-inside, allowed-at, allowed-missing}
 use borrow.Author.Needs.{needs}
 use Rattle.sanitize_uri.proofs.is_allowed.Statement.{statement}
 use Rattle.sanitize_uri.proofs.is_allowed.Tie as tie

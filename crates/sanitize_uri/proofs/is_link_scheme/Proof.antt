@@ -1,5 +1,5 @@
 -- One of six words. Assumes nothing.
-use Rattle.sanitize_uri.proofs.Laws.{six-words}
+use Rattle.sanitize_uri.proofs.Schemes.{six-words}
 use borrow.Author.Needs.{needs}
 use Rattle.sanitize_uri.proofs.is_link_scheme.Statement.{statement}
 use Rattle.sanitize_uri.proofs.is_link_scheme.Tie as tie

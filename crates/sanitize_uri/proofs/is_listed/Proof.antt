@@ -1,5 +1,5 @@
 -- By the list that is asked for. Assumes nothing.
-use Rattle.sanitize_uri.proofs.Laws.{listed-by}
+use Rattle.sanitize_uri.proofs.Schemes.{listed-by}
 use borrow.Author.Needs.{needs}
 use Rattle.sanitize_uri.proofs.is_listed.Statement.{statement}
 use Rattle.sanitize_uri.proofs.is_listed.Tie as tie

@@ -1,5 +1,5 @@
 -- One of two words. Assumes nothing.
-use Rattle.sanitize_uri.proofs.Laws.{two-words}
+use Rattle.sanitize_uri.proofs.Schemes.{two-words}
 use borrow.Author.Needs.{needs}
 use Rattle.sanitize_uri.proofs.is_web_scheme.Statement.{statement}
 use Rattle.sanitize_uri.proofs.is_web_scheme.Tie as tie

@@ -3,7 +3,7 @@ use mathlib.Core.Path.{_≡_, refl}
 use Prim.Native.Nat.{_-_}
 use lib.ListN.{length, drop}
 use Rattle.lent.specs.Bytes.{same, mapped, lower}
-use Rattle.sanitize_uri.proofs.Laws.{other-length, word-differs, word-next, word-end}
+use Rattle.sanitize_uri.proofs.Schemes.{other-length, word-differs, word-next, word-end}
 use borrow.Author.Needs.{needs}
 use Rattle.sanitize_uri.proofs.is_word.Statement.{statement}
 use Rattle.sanitize_uri.proofs.is_word.Tie as tie

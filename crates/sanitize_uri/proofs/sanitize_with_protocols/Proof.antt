@@ -1,6 +1,6 @@
 -- Nothing, or the URL sanitized. Assumes nothing.
 use Rattle.lent.proofs.Laws.{same}
-use Rattle.sanitize_uri.proofs.Laws.{not-allowed, is-allowed}
+use Rattle.sanitize_uri.proofs.Schemes.{not-allowed, is-allowed}
 use borrow.Author.Needs.{needs}
 use Rattle.sanitize_uri.proofs.sanitize_with_protocols.Statement.{statement}
 use Rattle.sanitize_uri.proofs.sanitize_with_protocols.Tie as tie

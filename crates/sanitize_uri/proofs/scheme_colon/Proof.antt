@@ -3,7 +3,7 @@ use mathlib.Core.Path.{_≡_, refl}
 use Prim.Native.Nat.{_-_}
 use lib.ListN.{length, drop}
 use Rattle.sanitize_uri.specs.Protocols.{colonFrom, colonOf}
-use Rattle.sanitize_uri.proofs.Laws.{colon-found, colon-barred, colon-next, colon-missing}
+use Rattle.sanitize_uri.proofs.Schemes.{colon-found, colon-barred, colon-next, colon-missing}
 use borrow.Author.Needs.{needs}
 use Rattle.sanitize_uri.proofs.scheme_colon.Statement.{statement}
 use Rattle.sanitize_uri.proofs.scheme_colon.Tie as tie

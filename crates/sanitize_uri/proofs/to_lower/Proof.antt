@@ -1,5 +1,5 @@
 -- By the three ranges. Assumes nothing.
-use Rattle.sanitize_uri.proofs.Laws.{lower-below, lower-in, lower-above}
+use Rattle.sanitize_uri.proofs.Schemes.{lower-below, lower-in, lower-above}
 use borrow.Author.Needs.{needs}
 use Rattle.sanitize_uri.proofs.to_lower.Statement.{statement}
 use Rattle.sanitize_uri.proofs.to_lower.Tie as tie

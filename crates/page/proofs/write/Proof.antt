@@ -1,8 +1,8 @@
 -- Refused, or written and ended. Assumes nothing.
 use Rattle.page.proofs.Laws.{refused, wrote}
 use borrow.Author.Needs.{needs}
-use Rattle.page.proofs.escape.Statement.{statement}
-use Rattle.page.proofs.escape.Tie as tie
+use Rattle.page.proofs.write.Statement.{statement}
+use Rattle.page.proofs.write.Tie as tie
 
 take-text-requires : tie.Need-take-text-requires
 take-text-requires c κs = search needs
@@ -16,8 +16,8 @@ refuse-requires c κs = search needs
 enum-told : tie.Need-enum-told
 enum-told c = search needs
 
-encode-requires : tie.Need-encode-requires
-encode-requires c κs = search needs
+append-requires : tie.Need-append-requires
+append-requires c κs = search needs
 
 finish-requires : tie.Need-finish-requires
 finish-requires c κs = search needs
@@ -34,15 +34,15 @@ same-length-2 c = search needs
 returns-2 : tie.Need-returns-2
 returns-2 c = search wrote
 
-pub escape-spec : {M : Type 1} → statement M
-escape-spec =
+pub write-spec : {M : Type 1} → statement M
+write-spec =
     tie.close
     (tie.spec
     take-text-requires
     enum-known-w
     refuse-requires
     enum-told
-    encode-requires
+    append-requires
     finish-requires
     same-length
     returns
