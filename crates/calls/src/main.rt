@@ -25,28 +25,29 @@ struct Request {
 fn main() {
     let mut input = [0u8; 393216];
     let mut answer = [0u8; 524312];
-    serve(&mut input, &mut answer);
+    let mut work = [0u8; 131072];
+    serve(&mut input, &mut answer, &mut work);
 }
 
 // A proved loop has to end, and nothing says that the input does: it counts down from a number that no run uses up.
-fn serve(input: &mut [u8], answer: &mut [u8]) {
+fn serve(input: &mut [u8], answer: &mut [u8], work: &mut [u8]) {
     let mut turns = u64::MAX;
-    while turns > 0 && serve_one(input, answer) {
+    while turns > 0 && serve_one(input, answer, work) {
         turns -= 1;
     }
 }
 
 // Reads one request and answers it; false where the run ends.
-fn serve_one(input: &mut [u8], answer: &mut [u8]) -> bool {
+fn serve_one(input: &mut [u8], answer: &mut [u8], work: &mut [u8]) -> bool {
     let mut header = [0u8; 32];
     if io::read_full(0, &mut header) != 32 {
         return false;
     }
     let request = read_request(&header);
-    if (request.op < 1) | (5 < request.op) {
+    if (request.op < 1) | ((5 < request.op) & (request.op != 8)) {
         return false;
     }
-    answer_request(request, input, answer)
+    answer_request(request, input, answer, work)
 }
 
 fn wide(b: u8) -> usize
@@ -74,10 +75,11 @@ fn read_request(header: &[u8; 32]) -> Request {
 }
 
 // Takes the parts of the buffers that the request needs. A request past a limit ends the run.
-fn answer_request(r: Request, input: &mut [u8], answer: &mut [u8]) -> bool {
+fn answer_request(r: Request, input: &mut [u8], answer: &mut [u8], work: &mut [u8]) -> bool {
     let text = r.text;
     let events = r.events;
     let room = r.room;
+    let second = r.work;
     if MOST_TEXT < text {
         return false;
     }
@@ -87,7 +89,7 @@ fn answer_request(r: Request, input: &mut [u8], answer: &mut [u8]) -> bool {
     if MOST_ROOM < room {
         return false;
     }
-    if MOST_WORK < r.work {
+    if MOST_WORK < second {
         return false;
     }
     if input.len() < text + events {
@@ -95,6 +97,17 @@ fn answer_request(r: Request, input: &mut [u8], answer: &mut [u8]) -> bool {
     }
     if answer.len() < 24 + room {
         return false;
+    }
+    if work.len() < second {
+        return false;
+    }
+    if r.op == 8 {
+        return exchange_bundle(
+            r,
+            &mut input[0..text + events],
+            &mut answer[0..24 + room],
+            &mut work[0..second],
+        );
     }
     exchange(r, &mut input[0..text + events], &mut answer[0..24 + room])
 }
@@ -116,6 +129,32 @@ fn exchange(r: Request, input: &mut [u8], answer: &mut [u8]) -> bool {
     io::write_all(1, answer)
 }
 
+// The same for the reader, which is lent two buffers: the second one's bytes follow the first's.
+fn exchange_bundle(r: Request, input: &mut [u8], answer: &mut [u8], events: &mut [u8]) -> bool {
+    if io::read_full(0, input) != input.len() {
+        return false;
+    }
+    let text = r.text;
+    if input.len() < text {
+        return false;
+    }
+    if answer.len() < 24 {
+        return false;
+    }
+    let read = call_reader(&input[0..text], &mut answer[24..], events);
+    put_reader_header(&mut answer[0..24], read, r.room, r.work);
+    if !io::write_all(1, answer) {
+        return false;
+    }
+    io::write_all(1, events)
+}
+
+fn call_reader(bundle: &[u8], text: &mut [u8], events: &mut [u8]) -> bundle::Answer {
+    fill(text, 0xA5);
+    fill(events, 0xA5);
+    page::read_bundle(bundle, text, events)
+}
+
 fn call(r: Request, text: &[u8], out: &mut [u8]) -> page::Written {
     fill(out, 0xA5);
     let op = r.op;
@@ -134,6 +173,16 @@ fn put_header(head: &mut [u8], w: page::Written, room: usize) {
     put_u32(head, 0, page::number(w) as usize);
     put_u32(head, 4, page::value(w));
     put_u32(head, 16, room);
+}
+
+fn put_reader_header(head: &mut [u8], a: bundle::Answer, room: usize, work: usize) {
+    lent::clear(head, 0);
+    put_u32(head, 0, bundle::number(a) as usize);
+    put_u32(head, 4, bundle::value(a));
+    put_u32(head, 8, bundle::events_length(a));
+    put_u32(head, 12, bundle::edition(a) as usize);
+    put_u32(head, 16, room);
+    put_u32(head, 20, work);
 }
 
 // Four bytes, little endian.

@@ -5,6 +5,7 @@ ghost use Rattle.encode.specs.Encode.{encodeOf};
 ghost use Rattle.sanitize_uri.specs.Url.{sanitizeOf};
 ghost use Rattle.sanitize_uri.specs.Protocols.{linkSchemes, imageSchemes, sanitizeWithProtocolsOf};
 ghost use Rattle.normalize_identifier.specs.Identity.{identityOf};
+ghost use Rattle.bundle.specs.Read.{HasRead};
 ghost use Rattle.page.specs.Written.{numberOf, valueOf, resultOf, takenOf, Ended, Refuses, Wrote};
 
 // The answer of a call that writes a text: its length, or why nothing was written.
@@ -63,6 +64,13 @@ pub fn identity(label: &[u8], out: &mut [u8]) -> Written
     ensures { λ r. ⌜ Wrote (now (label .entry)) (identityOf (now (label .entry))) (now (out .entry)) (now (out .exit)) r ⌝ }
 {
     write(Job::Identity, label, out)
+}
+
+// Reads the text and the events of a note bundle.
+pub fn read_bundle(bundle: &[u8], text: &mut [u8], events: &mut [u8]) -> bundle::Answer
+    ensures { λ r. ⌜ HasRead (now (bundle .entry)) (now (text .entry)) (now (events .entry)) (now (text .exit)) (now (events .exit)) r ⌝ }
+{
+    bundle::read(bundle, text, events)
 }
 
 // 01's number for an answer.

@@ -390,6 +390,35 @@ fn damage(bundle: &mut Vec<u8>, random: &mut Random) {
     }
 }
 
+// ---- the few that the gate replays: an answer is 128,024 bytes long, unless a buffer is too short
+
+pub fn fixed() -> Vec<Case> {
+    let good = bundle(&mut Random(SEED), 501, 26);
+    let damaged = |damage: fn(&mut Vec<u8>)| {
+        let mut bundle = good.clone();
+        damage(&mut bundle);
+        Case::of(bundle)
+    };
+    vec![
+        Case::of(good.clone()),
+        Case { bundle: good.clone(), text_room: 0, event_room: 0 },
+        damaged(|b| b.clear()),
+        damaged(|b| b.truncate(700)),
+        damaged(|b| b.truncate(4 * BLOCK)),
+        damaged(|b| b[BLOCK + 9] ^= 1),
+        damaged(|b| mended(b, 2, 0)),
+        damaged(|b| mended(b, 1, 4)),
+        damaged(|b| mended(b, 4, 507)),
+    ]
+}
+
+/// One bit of a place of a block turned, and the check mended.
+fn mended(bundle: &mut [u8], block: usize, place: usize) {
+    let block = &mut bundle[block * BLOCK..(block + 1) * BLOCK];
+    block[place] ^= 1;
+    mend(block);
+}
+
 // ---- the comparison
 
 /// A process is given about this many bytes, requests and answers together.

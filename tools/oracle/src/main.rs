@@ -1,4 +1,5 @@
 // The crate markdown 1.0.0 as the judge: compares the proved program `calls` with it, and writes what the gate replays.
+mod bundle;
 mod drive;
 mod families;
 mod judge;
@@ -12,19 +13,27 @@ use families::LEAVES;
 use std::process::exit;
 use std::time::Instant;
 
-const USAGE: &str = "usage: oracle leaves PROGRAM WORDS... | oracle vectors DIR | oracle references";
+const USAGE: &str = "usage: oracle leaves PROGRAM WORDS... | oracle bundles PROGRAM WORDS... | oracle vectors DIR | oracle references";
 
 fn main() {
     let words: Vec<String> = std::env::args().skip(1).collect();
     let words: Vec<&str> = words.iter().map(String::as_str).collect();
     match words[..] {
         ["leaves", _, ..] => leaves(&words[1..]),
+        ["bundles", _, ..] => bundles(&words[1..]),
         ["vectors", folder] => vectors::write(folder),
         ["references"] => references::print(),
         _ => {
             eprintln!("{USAGE}");
             exit(2)
         }
+    }
+}
+
+/// Compares the reader with an independent reading of document 01.
+fn bundles(program: &[&str]) {
+    if bundle::compare(program) > 0 {
+        exit(1);
     }
 }
 

@@ -1,4 +1,5 @@
 // The fixed list that the gate replays: requests chosen from the families, and the crate's answers to them.
+use crate::bundle;
 use crate::families::{Family, LEAVES};
 use crate::judge::{answer, expected};
 use crate::random::Random;
@@ -22,8 +23,13 @@ pub fn write(folder: &str) {
         request.write(&mut stdin);
         stdout.extend(expected(request));
     }
-    println!("{} requests, {} bytes of stdin, {} bytes of stdout", requests.len(), stdin.len(), stdout.len());
-    assert!(stdin.len() + stdout.len() < 1_500_000);
+    let bundles = bundle::fixed();
+    for case in &bundles {
+        case.write(&mut stdin);
+        stdout.extend(case.expected());
+    }
+    println!("{} requests, {} bytes of stdin, {} bytes of stdout", requests.len() + bundles.len(), stdin.len(), stdout.len());
+    assert!(stdin.len() + stdout.len() < 2_500_000);
     std::fs::write(format!("{folder}/stdin"), stdin).expect("stdin can be written");
     std::fs::write(format!("{folder}/stdout"), stdout).expect("stdout can be written");
 }

@@ -1,0 +1,118 @@
+-- 01's bundle: a header block, then text blocks, then event blocks, none more than needed; written, judged and read. Assumes nothing.
+use mathlib.Core.Bool.{_&&_}
+use mathlib.Core.List.{List, [], _++_}
+use Prim.Native.Nat.{ℕ, zero, suc, _+_, _-_, _*_, _/_, _%_, min}
+use lib.Dec.{eqb, leb, ltb}
+use lib.ListN.{length, take, drop}
+use Rattle.bundle.specs.declared.Refusal.{Refusal}
+use Rattle.bundle.specs.declared.Refusal.the-variants.{Broken}
+use Rattle.bundle.specs.declared.Verdict.{Verdict}
+use Rattle.bundle.specs.declared.Verdict.the-variants.{Good, Bad}
+use Rattle.bundle.specs.Block.{little, blockOf, field, editionIn, _before_, demand, judgeBlock}
+use Rattle.bundle.specs.Sizes.{mostText, mostEvents, recordSize, textRoom, eventRoom, headerUsed, headerKind, textKind, eventKind}
+
+-- as many blocks as so many bytes need
+abbrev pub blocksFor : (room bytes : ℕ) → ℕ
+blocksFor room bytes = (bytes + (room - 1)) / room
+
+-- ---- written
+
+-- a run of so many blocks of one kind, numbered from block on, each with up to room bytes of what is given
+unfoldable pub runOf : (edition kind room block : ℕ) → ℕ → List ℕ → List ℕ
+runOf edition kind room block zero given = []
+runOf edition kind room block (suc n) given = blockOf edition block kind (take room given) ++ runOf edition kind room (block + 1) n (drop room given)
+
+-- the header's payload: text length u32, event count u32
+abbrev pub headerOf : List ℕ → List ℕ → List ℕ
+headerOf text events = little 4 (length text) ++ little 4 (length events / recordSize)
+
+-- a header block, as many text blocks as are needed, then as many event blocks
+unfoldable pub bundleOf : List ℕ → List ℕ → ℕ → List ℕ
+bundleOf text events edition =
+    blockOf edition 0 headerKind (headerOf text events)
+    ++ runOf edition textKind textRoom 1 (blocksFor textRoom (length text)) text
+    ++ runOf edition eventKind eventRoom (1 + blocksFor textRoom (length text)) (blocksFor eventRoom (length events)) events
+
+-- ---- read
+
+-- the verdict on a run of so many blocks, in which so many bytes are used
+unfoldable pub judgeRun : (edition kind room block : ℕ) → ℕ → (used : ℕ) → List ℕ → Verdict
+judgeRun edition kind room block zero used blocks = Good
+judgeRun edition kind room block (suc n) used blocks =
+    judgeBlock edition block kind (min room used) (take 512 blocks)
+    before judgeRun edition kind room (block + 1) n (used - room) (drop 512 blocks)
+
+-- what the run holds: of each block the payload, from place 8 on, as far as it is used
+unfoldable pub heldIn : (room : ℕ) → ℕ → (used : ℕ) → List ℕ → List ℕ
+heldIn room zero used blocks = []
+heldIn room (suc n) used blocks = take (min room used) (drop 8 blocks) ++ heldIn room n (used - room) (drop 512 blocks)
+
+module _ (bundle : List ℕ) where
+  -- what the header says beside the edition
+  abbrev pub textLength : ℕ
+  textLength = field 8 4 bundle
+
+  abbrev pub eventCount : ℕ
+  eventCount = field 12 4 bundle
+
+  -- and what follows from it
+  abbrev pub eventLength : ℕ
+  eventLength = recordSize * eventCount
+
+  abbrev pub textBlocks : ℕ
+  textBlocks = blocksFor textRoom textLength
+
+  abbrev pub eventBlocks : ℕ
+  eventBlocks = blocksFor eventRoom eventLength
+
+  -- where the text blocks and the event blocks begin
+  abbrev pub textPart : List ℕ
+  textPart = drop 512 bundle
+
+  abbrev pub eventPart : List ℕ
+  eventPart = drop (512 * (1 + textBlocks)) bundle
+
+  -- length 0, or no multiple of 512
+  unfoldable pub judgeLength : Verdict
+  judgeLength = demand (ltb 0 (length bundle) && eqb (length bundle % 512) 0) (Broken 0)
+
+  -- block 0, and its two lengths; its edition is the one that the others are held to
+  unfoldable pub judgeHeader : Verdict
+  judgeHeader = judgeBlock (editionIn bundle) 0 headerKind headerUsed (take 512 bundle) before demand (leb textLength mostText && leb eventCount mostEvents) (Broken 0)
+
+  -- as many blocks as the header says
+  unfoldable pub judgeCount : Verdict
+  judgeCount = demand (eqb (length bundle / 512) (1 + textBlocks + eventBlocks)) (Broken 0)
+
+  -- the text blocks follow the header
+  unfoldable pub judgeText : Verdict
+  judgeText = judgeRun (editionIn bundle) textKind textRoom 1 textBlocks textLength textPart
+
+  -- the event blocks follow the text blocks
+  unfoldable pub judgeEvents : Verdict
+  judgeEvents = judgeRun (editionIn bundle) eventKind eventRoom (1 + textBlocks) eventBlocks eventLength eventPart
+
+  -- in 01's order
+  unfoldable pub judgeBundle : Verdict
+  judgeBundle = judgeLength before judgeHeader before judgeCount before judgeText before judgeEvents
+
+  -- what a good bundle holds
+  unfoldable pub textIn : List ℕ
+  textIn = heldIn textRoom textBlocks textLength textPart
+
+  unfoldable pub eventsIn : List ℕ
+  eventsIn = heldIn eventRoom eventBlocks eventLength eventPart
+
+-- what a bundle says, or why it is refused
+pub data Meaning : Type 0 where
+  says : (text events : List ℕ) (edition : ℕ) → Meaning
+  refused : Refusal → Meaning
+
+-- a bundle with this verdict
+abbrev pub meant : Verdict → List ℕ → Meaning
+meant Good bundle = says (textIn bundle) (eventsIn bundle) (editionIn bundle)
+meant (Bad r) bundle = refused r
+
+-- what the reader makes of a bundle, the buffers apart
+unfoldable pub readOf : List ℕ → Meaning
+readOf bundle = meant (judgeBundle bundle) bundle

@@ -1,0 +1,4 @@
+pub mod Sizes
+pub mod Block
+pub mod Bundle
+pub mod Read

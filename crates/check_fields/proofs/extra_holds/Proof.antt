@@ -1,0 +1,20 @@
+-- A list, a table, any other. Assumes nothing.
+use Rattle.check_fields.proofs.Cases.{of-list, of-table, of-other}
+use borrow.Author.Needs.{needs}
+use Rattle.check_fields.proofs.extra_holds.Statement.{statement}
+use Rattle.check_fields.proofs.extra_holds.Tie as tie
+
+returns : tie.Need-returns
+returns c = search of-list
+
+table-extra-requires : tie.Need-table-extra-requires
+table-extra-requires c κs = search needs
+
+returns-2 : tie.Need-returns-2
+returns-2 c = search of-table
+
+returns-3 : tie.Need-returns-3
+returns-3 c = search of-other
+
+pub extra-holds-spec : {M : Type 1} → statement M
+extra-holds-spec = tie.close (tie.spec returns table-extra-requires returns-2 returns-3)

@@ -1,0 +1,55 @@
+-- The loop's invariant: the first from `i` on is the first of all. Assumes nothing.
+use mathlib.Core.Path.{_≡_}
+use Prim.Native.Nat.{_-_}
+use lib.ListN.{drop}
+use Rattle.event.specs.Event.{eventsOf}
+use Rattle.check_labels.specs.Labels.{undefinedFrom, undefinedOf}
+use Rattle.check_labels.proofs.Steps.{first-start, first-more, first-found, first-end}
+use borrow.Author.Needs.{needs}
+use Rattle.check_labels.proofs.first.Statement.{statement}
+use Rattle.check_labels.proofs.first.Tie as tie
+
+abbrev Inv-loop : tie.InvT-loop
+Inv-loop text events definitions footnotes count i₀ i = undefinedFrom text (eventsOf events) i (drop i (eventsOf events)) ≡ undefinedOf text events
+
+abbrev μ-loop : tie.MeasureT-loop
+μ-loop text events definitions footnotes count i₀ i = count - i
+
+count-requires : tie.Need-count-requires Inv-loop μ-loop
+count-requires c κs = search needs
+
+loop-holds : tie.Need-loop-holds Inv-loop μ-loop
+loop-holds c = search first-start
+
+holds-requires : tie.Need-holds-requires Inv-loop μ-loop
+holds-requires c κs = search needs
+
+add-i : tie.Need-add-i Inv-loop μ-loop
+add-i c = search needs
+
+loop-less : tie.Need-loop-less Inv-loop μ-loop
+loop-less c = search needs
+
+loop-again : tie.Need-loop-again Inv-loop μ-loop
+loop-again c = search first-more
+
+returns : tie.Need-returns Inv-loop μ-loop
+returns c = search first-found
+
+returns-2 : tie.Need-returns-2 Inv-loop μ-loop
+returns-2 c = search first-end
+
+pub first-spec : {M : Type 1} → statement M
+first-spec =
+    tie.close
+    (tie.spec
+    Inv-loop
+    μ-loop
+    count-requires
+    loop-holds
+    holds-requires
+    add-i
+    loop-less
+    loop-again
+    returns
+    returns-2)

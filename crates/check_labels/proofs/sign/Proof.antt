@@ -1,0 +1,102 @@
+-- The loop's invariant: the signatures below `i` are right. Assumes nothing.
+use Prim.Native.Nat.{_-_}
+use mathlib.Core.Path.{_≡_}
+use lib.ListN.{length}
+use Rattle.check_labels.specs.Signature.{SignedTo}
+use Rattle.check_labels.proofs.Signatures.{signed-none, signed-other, signed-put, signed-full, signed-end}
+use borrow.Author.Needs.{needs}
+use Rattle.check_labels.proofs.sign.Statement.{statement}
+use Rattle.check_labels.proofs.sign.Tie as tie
+
+abbrev Inv-loop : tie.InvT-loop
+Inv-loop text events n signatures₀ count i₀ signatures i = (SignedTo i text events n signatures) × (length signatures ≡ length signatures₀)
+
+abbrev μ-loop : tie.MeasureT-loop
+μ-loop text events n signatures₀ count i₀ signatures i = count - i
+
+count-requires : tie.Need-count-requires Inv-loop μ-loop
+count-requires c κs = search needs
+
+loop-holds : tie.Need-loop-holds Inv-loop μ-loop
+loop-holds c = search (signed-none, needs)
+
+same-length : tie.Need-same-length Inv-loop μ-loop
+same-length c = search needs
+
+returns : tie.Need-returns Inv-loop μ-loop
+returns c = search signed-full
+
+read-requires : tie.Need-read-requires Inv-loop μ-loop
+read-requires c κs = search needs
+
+label-of-requires : tie.Need-label-of-requires Inv-loop μ-loop
+label-of-requires c κs = search needs
+
+enum-known-from : tie.Need-enum-known-from Inv-loop μ-loop
+enum-known-from c = search needs
+
+enum-told : tie.Need-enum-told Inv-loop μ-loop
+enum-told c = search needs
+
+add-i : tie.Need-add-i Inv-loop μ-loop
+add-i c = search needs
+
+loop-less : tie.Need-loop-less Inv-loop μ-loop
+loop-less c = search needs
+
+loop-again : tie.Need-loop-again Inv-loop μ-loop
+loop-again c = search (signed-other, needs)
+
+slice-requires : tie.Need-slice-requires Inv-loop μ-loop
+slice-requires c κs = search needs
+
+signature-requires : tie.Need-signature-requires Inv-loop μ-loop
+signature-requires c κs = search needs
+
+mul-signatures : tie.Need-mul-signatures Inv-loop μ-loop
+mul-signatures c = search needs
+
+slice-write-signatures : tie.Need-slice-write-signatures Inv-loop μ-loop
+slice-write-signatures c = search needs
+
+add-i-2 : tie.Need-add-i-2 Inv-loop μ-loop
+add-i-2 c = search needs
+
+loop-less-2 : tie.Need-loop-less-2 Inv-loop μ-loop
+loop-less-2 c = search needs
+
+loop-again-2 : tie.Need-loop-again-2 Inv-loop μ-loop
+loop-again-2 c = search (signed-put, needs)
+
+same-length-2 : tie.Need-same-length-2 Inv-loop μ-loop
+same-length-2 c = search needs
+
+returns-2 : tie.Need-returns-2 Inv-loop μ-loop
+returns-2 c = search signed-end
+
+pub sign-spec : {M : Type 1} → statement M
+sign-spec =
+    tie.close
+    (tie.spec
+    Inv-loop
+    μ-loop
+    count-requires
+    loop-holds
+    same-length
+    returns
+    read-requires
+    label-of-requires
+    enum-known-from
+    enum-told
+    add-i
+    loop-less
+    loop-again
+    slice-requires
+    signature-requires
+    mul-signatures
+    slice-write-signatures
+    add-i-2
+    loop-less-2
+    loop-again-2
+    same-length-2
+    returns-2)

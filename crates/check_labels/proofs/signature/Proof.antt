@@ -1,0 +1,56 @@
+-- The loop's invariant: the signature of what is left, from `s` on, is the whole one. Assumes nothing.
+use mathlib.Core.Path.{_≡_}
+use Prim.Native.Nat.{_-_}
+use lib.ListN.{length}
+use Rattle.normalize_identifier.specs.Identity.{identityOf, leftAt}
+use Rattle.normalize_identifier.proofs.Laws.{forward-more}
+use Rattle.check_labels.specs.Signature.{signatureFrom, signatureOf}
+use Rattle.check_labels.proofs.Signatures.{signature-start, signature-more, signature-end}
+use borrow.Author.Needs.{needs}
+use Rattle.check_labels.proofs.signature.Statement.{statement}
+use Rattle.check_labels.proofs.signature.Tie as tie
+
+abbrev Inv-loop : tie.InvT-loop
+Inv-loop label c₀ s₀ c s = signatureFrom s (leftAt label c) ≡ signatureOf (identityOf label)
+
+abbrev μ-loop : tie.MeasureT-loop
+μ-loop label c₀ s₀ c s = length label - c .at
+
+loop-holds : tie.Need-loop-holds Inv-loop μ-loop
+loop-holds c = search signature-start
+
+next-requires : tie.Need-next-requires Inv-loop μ-loop
+next-requires c κs = search needs
+
+enum-known-b : tie.Need-enum-known-b Inv-loop μ-loop
+enum-known-b c = search needs
+
+enum-told : tie.Need-enum-told Inv-loop μ-loop
+enum-told c = search needs
+
+returns : tie.Need-returns Inv-loop μ-loop
+returns c = search signature-end
+
+mixed-requires : tie.Need-mixed-requires Inv-loop μ-loop
+mixed-requires c κs = search needs
+
+loop-less : tie.Need-loop-less Inv-loop μ-loop
+loop-less c = search forward-more
+
+loop-again : tie.Need-loop-again Inv-loop μ-loop
+loop-again c = search signature-more
+
+pub signature-spec : {M : Type 1} → statement M
+signature-spec =
+    tie.close
+    (tie.spec
+    Inv-loop
+    μ-loop
+    loop-holds
+    next-requires
+    enum-known-b
+    enum-told
+    returns
+    mixed-requires
+    loop-less
+    loop-again)

@@ -1,0 +1,292 @@
+// The pass for 7: a link, an image or a call whose label no definition has.
+ghost use mathlib.Core.Path.{_≡_};
+ghost use mathlib.Core.Bool.{_&&_};
+ghost use mathlib.Core.List.{[], _∷_};
+ghost use Prim.Native.Nat.{_+_, _-_, _/_, _<_};
+ghost use lib.ListN.{length, take, drop};
+ghost use Rattle.lent.specs.Bytes.{listed, oneOf};
+ghost use Rattle.event.specs.Event.{eventsOf, eventAt};
+ghost use Rattle.normalize_identifier.specs.Identity.{identityOf};
+ghost use Rattle.check_labels.specs.Labels.{labelOf, turnOf, ownPart, soughtOf, identities, isDefined, labelHolds, undefinedOf};
+ghost use Rattle.check_labels.specs.Signature.{mix, signatureOf, Signed, Skips};
+use event::Event;
+use event::EventIndex;
+use normalize_identifier::Cursor;
+use normalize_identifier::Step;
+
+pub enum Labels {
+    Yes,
+    At(usize),
+}
+
+// A part of an element: its slice, or the element has none.
+pub enum Part {
+    Slice(usize, usize),
+    Nothing,
+}
+
+// What an event is on the way to an element's part: passed, with so many open behind it; the part, with its slice; or the element's exit.
+pub enum Turn {
+    On(usize),
+    Own(usize, usize),
+    Out,
+}
+
+// The text from a place to another, as much of it as there is.
+fn slice(text: &[u8], from: usize, to: usize) -> &[u8]
+    ensures { λ r. ⌜ now r ≡ take (to - from) (drop from (now (text .entry))) ⌝ }
+{
+    if to < from {
+        return &text[0..0];
+    }
+    if text.len() < from {
+        return &text[0..0];
+    }
+    if text.len() < to {
+        return &text[from..];
+    }
+    &text[from..to]
+}
+
+// One byte more of a signature.
+fn mixed(s: u64, b: u8) -> u64
+    ensures { λ r. ⌜ r ≡ mix s b ⌝ }
+{
+    s % 0x100_0000_0000_0000 * 131 + b as u64
+}
+
+// A number that labels of one identity share, so that two that differ in it need not be compared.
+fn signature(label: &[u8]) -> u64
+    ensures { λ r. ⌜ r ≡ signatureOf (identityOf (now (label .entry))) ⌝ }
+{
+    let mut c = Cursor {
+        at: 0,
+        begun: false,
+    };
+    let mut s: u64 = 1;
+    loop {
+        let Step::Byte(b, d) = normalize_identifier::next(label, c) else {
+            return s;
+        };
+        s = mixed(s, b);
+        c = d;
+    }
+}
+
+// The slice of an event that is the exit of an n.
+fn label_of(e: Event, n: u8) -> Part
+    ensures { λ r. ⌜ r ≡ labelOf n e ⌝ }
+{
+    if e.kind == Event::ENTER {
+        return Part::Nothing;
+    }
+    if e.name != n {
+        return Part::Nothing;
+    }
+    Part::Slice(e.from.0, e.to.0)
+}
+
+// The signatures of the definitions' labels, each at its event's index, as far as there is room.
+fn sign(text: &[u8], events: &[u8], n: u8, signatures: &mut [u64])
+    ensures { λ r. ⌜ Signed (now (text .entry)) (now (events .entry)) n (now (signatures .exit)) ⌝ }
+{
+    let count = event::count(events);
+    let mut i = 0;
+    while i < count {
+        if signatures.len() <= i {
+            return;
+        }
+        let Part::Slice(from, to) = label_of(Event::read(events, EventIndex(i)), n) else {
+            i += 1;
+            continue;
+        };
+        signatures[i] = signature(slice(text, from, to));
+        i += 1;
+    }
+}
+
+// Whether the label at an index has another signature, so that it is another label.
+fn skips(signatures: &[u64], i: usize, s: u64) -> bool
+    ensures { λ r. ⌜ Skips (now (signatures .entry)) i s r ⌝ }
+{
+    if signatures.len() <= i {
+        return false;
+    }
+    signatures[i] != s
+}
+
+// Whether the label of a definition (n is 54) or of a footnote definition (65) has the identity of `label`.
+fn has_label(text: &[u8], events: &[u8], n: u8, signatures: &[u64], label: &[u8]) -> bool
+    requires { ⌜ Signed (now text) (now events) n (now signatures) ⌝ }
+    ensures { λ r. ⌜ r ≡ listed (identities n (now (text .entry)) (eventsOf (now (events .entry)))) (identityOf (now (label .entry))) ⌝ }
+{
+    let s = signature(label);
+    let count = event::count(events);
+    let mut i = 0;
+    while i < count {
+        let Part::Slice(from, to) = label_of(Event::read(events, EventIndex(i)), n) else {
+            i += 1;
+            continue;
+        };
+        if skips(signatures, i, s) {
+            i += 1;
+            continue;
+        }
+        if normalize_identifier::same_identity(label, slice(text, from, to)) {
+            return true;
+        }
+        i += 1;
+    }
+    false
+}
+
+fn both(a: bool, b: bool) -> bool
+    ensures { λ r. ⌜ r ≡ (a && b) ⌝ }
+{
+    if a {
+        return b;
+    }
+    false
+}
+
+// What an event is to an element in which so many are open: names 0 to 4 are not counted.
+fn turned(e: Event, depth: usize, n: u8, at: usize) -> Turn
+    requires { ⌜ depth < 0xFFFF_FFFF_FFFF_FFFF ⌝ }
+    ensures { λ r. ⌜ r ≡ turnOf n at depth e ⌝ }
+{
+    if e.name <= Event::BLANK_LINE_ENDING {
+        return Turn::On(depth);
+    }
+    if e.kind == Event::ENTER {
+        return Turn::On(depth + 1);
+    }
+    if depth == 0 {
+        return Turn::Out;
+    }
+    if both(depth == at, e.name == n) {
+        return Turn::Own(e.from.0, e.to.0);
+    }
+    Turn::On(depth - 1)
+}
+
+// The slice of an element's own part n, which stands so deep in it. The events behind the element's enter start at `from`.
+fn own_part(events: &[u8], from: usize, n: u8, at: usize) -> Part
+    ensures { λ r. ⌜ r ≡ ownPart n at 0 (drop from (eventsOf (now (events .entry)))) ⌝ }
+{
+    let count = event::count(events);
+    let mut depth: usize = 0;
+    let mut i = from;
+    while i < count {
+        match turned(Event::read(events, EventIndex(i)), depth, n, at) {
+            Turn::On(d) => {
+                depth = d;
+                i += 1;
+                continue;
+            }
+            Turn::Own(a, b) => return Part::Slice(a, b),
+            Turn::Out => return Part::Nothing,
+        }
+    }
+    Part::Nothing
+}
+
+// The slice that is sought for the element whose events start at `from`.
+fn sought(events: &[u8], from: usize) -> Part
+    ensures { λ r. ⌜ r ≡ soughtOf (drop from (eventsOf (now (events .entry)))) ⌝ }
+{
+    if let Part::Slice(_, _) = own_part(events, from, Event::RESOURCE, 1) {
+        return Part::Nothing;
+    }
+    let Part::Slice(a, b) = own_part(events, from, Event::REFERENCE_STRING, 1) else {
+        return own_part(events, from, Event::LABEL_TEXT, 2);
+    };
+    Part::Slice(a, b)
+}
+
+fn is_defined(text: &[u8], events: &[u8], n: u8, signatures: &[u64], p: Part) -> bool
+    requires { ⌜ Signed (now text) (now events) n (now signatures) ⌝ }
+    ensures { λ r. ⌜ r ≡ isDefined (now (text .entry)) (identities n (now (text .entry)) (eventsOf (now (events .entry)))) p ⌝ }
+{
+    match p {
+        Part::Slice(from, to) => has_label(text, events, n, signatures, slice(text, from, to)),
+        Part::Nothing => true,
+    }
+}
+
+// A link or an image.
+fn is_medium(name: u8) -> bool
+    ensures { λ r. ⌜ r ≡ oneOf (45 ∷ 46 ∷ []) name ⌝ }
+{
+    if name == Event::LINK {
+        return true;
+    }
+    name == Event::IMAGE
+}
+
+// Whether the event at an index is no undefined link, image or call.
+fn holds(text: &[u8], events: &[u8], definitions: &[u64], footnotes: &[u64], i: usize) -> bool
+    requires { ⌜ (i < length (now events) / 20) × (Signed (now text) (now events) 54 (now definitions)) × (Signed (now text) (now events) 65 (now footnotes)) ⌝ }
+    ensures { λ r. ⌜ r ≡ labelHolds (now (text .entry)) (eventsOf (now (events .entry))) (eventAt (now (events .entry)) i) (drop (i + 1) (eventsOf (now (events .entry)))) ⌝ }
+{
+    if event::kind_at(events, EventIndex(i)) != Event::ENTER {
+        return true;
+    }
+    let name = event::name_at(events, EventIndex(i));
+    if is_medium(name) {
+        return is_defined(
+            text,
+            events,
+            Event::DEFINITION_LABEL_STRING,
+            definitions,
+            sought(events, i + 1),
+        );
+    }
+    if name == Event::GFM_FOOTNOTE_CALL {
+        return is_defined(
+            text,
+            events,
+            Event::GFM_FOOTNOTE_DEFINITION_LABEL_STRING,
+            footnotes,
+            sought(events, i + 1),
+        );
+    }
+    true
+}
+
+// The first enter that does not hold.
+fn first(text: &[u8], events: &[u8], definitions: &[u64], footnotes: &[u64]) -> Labels
+    requires { ⌜ (Signed (now text) (now events) 54 (now definitions)) × (Signed (now text) (now events) 65 (now footnotes)) ⌝ }
+    ensures { λ r. ⌜ r ≡ undefinedOf (now (text .entry)) (now (events .entry)) ⌝ }
+{
+    let count = event::count(events);
+    let mut i = 0;
+    while i < count {
+        if holds(text, events, definitions, footnotes, i) {
+            i += 1;
+            continue;
+        }
+        return Labels::At(i);
+    }
+    Labels::Yes
+}
+
+// Whether each link, image and call has its definition; else the first, by its enter, that has none.
+pub fn check_labels(text: &[u8], events: &[u8]) -> Labels
+    ensures { λ r. ⌜ r ≡ undefinedOf (now (text .entry)) (now (events .entry)) ⌝ }
+{
+    let mut definitions = [0u64; 3200];
+    let mut footnotes = [0u64; 3200];
+    sign(
+        text,
+        events,
+        Event::DEFINITION_LABEL_STRING,
+        &mut definitions,
+    );
+    sign(
+        text,
+        events,
+        Event::GFM_FOOTNOTE_DEFINITION_LABEL_STRING,
+        &mut footnotes,
+    );
+    first(text, events, &definitions, &footnotes)
+}

@@ -1,0 +1,5 @@
+pub mod Grammar
+pub mod Tag
+pub mod Nests
+pub mod Pass
+pub mod Tables
