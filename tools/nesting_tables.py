@@ -1,10 +1,10 @@
 #!/usr/bin/env python3
 """Prints the states of crates/nesting/specs/Tables.antt and the tables of crates/nesting/src/lib.rt, from 01's rules of nesting.
 
-python3 tools/nesting_tables.py
+Run `python3 tools/nesting_tables.py`, and put what it prints in the place of what is there: the check tests it against the rules in specs.
 """
 NAMES = 66
-REFUSED = 255
+NONE = 255
 FLOW = [12, 13, 16, 19, 20, 21, 22, 27, 28, 35, 53, 57, 63]
 INLINE = [5, 6, 7, 33, 37, *range(39, 47), 62]
 PLAIN = [5, 6, 7]
@@ -17,7 +17,6 @@ OTHER = {66: 23, 67: 24, 68: 29, 69: 47}
 def one(*kinds): return ('one', kinds)
 def opt(*kinds): return ('opt', kinds)
 def any_of(kinds): return ('any', tuple(kinds))
-def some(*kinds): return ('some', kinds)
 def chain(*kinds): return ('chain', kinds)
 
 
@@ -28,8 +27,8 @@ RULES = [
     ([7], [one(8), chain(9, 10), one(11)]),
     ([13], [one(14), opt(15), opt(14)]),
     ([16], [one(17), one(18)]),
-    ([21], [some(23)]),
-    ([22], [some(66)]),
+    ([21], [one(23), any_of([23])]),
+    ([22], [one(66), any_of([66])]),
     ([23], [one(24), any_of(FLOW)]),
     ([66], [one(67), any_of(FLOW)]),
     ([24], [one(26), one(25)]),
@@ -37,6 +36,7 @@ RULES = [
     ([27], [any_of([32])]),
     ([28], [one(29), any_of([32]), opt(68)]),
     ([29], [opt(30), opt(31)]),
+    ([68], []),
     ([33], [any_of([34])]),
     ([35], [any_of([36])]),
     ([37], [any_of([38])]),
@@ -48,7 +48,7 @@ RULES = [
     ([53], [one(54), opt(55), opt(56)]),
     ([57], [one(58), opt(59)]),
     ([58], [one(60)]),
-    ([59], [some(60)]),
+    ([59], [one(60), any_of([60])]),
     ([60], [any_of([61])]),
     ([63], [one(64), any_of(FLOW)]),
     ([64], [one(65)]),
@@ -67,12 +67,12 @@ def after(items, name):
         return after(left, name)
     for kind in kinds:
         if OTHER.get(kind, kind) == name:
-            return kind, (any_of(kinds), *left) if sort in ('any', 'some') else left
+            return kind, (any_of(kinds), *left) if sort == 'any' else left
     return after(left, name) if sort in ('opt', 'any') else None
 
 
 def may_end(items):
-    return all(sort not in ('one', 'some') for sort, _ in items)
+    return all(sort != 'one' for sort, _ in items)
 
 
 def states():
@@ -91,16 +91,15 @@ def states():
     return found
 
 
-def turn(items, name):
-    """What may come in an element of this name and behind it, or None where it is refused."""
-    if items is None:
-        return None
-    if name <= 2:
-        return items, items
-    if name <= 4:
-        return None, items
-    step = after(items, name)
-    return step and (HOLDS.get(step[0], ()), step[1])
+def packed(found):
+    """For each state a place, with its entries at place + name: no two states share one. States with many names go first."""
+    taken = [[name for name in range(5, NAMES) if state is not None and after(state, name)] for state in found]
+    places, owner = [0] * len(found), {}
+    for q in sorted(range(len(found)), key=lambda q: -len(taken[q])):
+        while any(places[q] + name in owner for name in taken[q]):
+            places[q] += 1
+        owner.update({places[q] + name: (q, name) for name in taken[q]})
+    return places, owner
 
 
 def shown(state):
@@ -111,20 +110,24 @@ def shown(state):
     return 'rest (' + ' ∷ '.join([*items, '[]']) + ')' if items else 'rest []'
 
 
-def constant(name, rows):
-    size = sum(map(len, rows))
-    lines = ''.join('    ' + ''.join(f'\\x{b:02x}' for b in row) + '\\\n' for row in rows)
-    return f'const {name}: [u8; {size}] = *b"\\\n{lines}";'
+def constant(name, records, in_line):
+    size = sum(map(len, records))
+    texts = [''.join(f'\\x{b:02x}' for b in record) for record in records]
+    lines = [''.join(texts[i:i + in_line]) for i in range(0, len(texts), in_line)]
+    return f'const {name}: [u8; {size}] = *b"\\\n' + ''.join(f'    {line}\\\n' for line in lines) + '";'
 
 
 def main():
     found = states()
     number = {state: q for q, state in enumerate(found)}
-    turns = [[turn(state, name) for name in range(NAMES)] for state in found]
+    places, owner = packed(found)
+    entries = [[NONE, 0, 0]] * (max(places) + NAMES)
+    for at, (q, name) in owner.items():
+        kind, behind = after(found[q], name)
+        entries[at] = [q, number[HOLDS.get(kind, ())], number[behind]]
     print('states =\n    ' + '\n    ∷ '.join([*map(shown, found), '[]']), end='\n\n')
-    print(constant('NEXT', [[number[t[1]] if t else REFUSED for t in row] for row in turns]), end='\n\n')
-    print(constant('START', [[number[t[0]] if t else 0 for t in row] for row in turns]), end='\n\n')
-    print(constant('DONE', [[1 if state is None or may_end(state) else 0 for state in found]]))
+    print(constant('STATES', [[place, int(state is None or may_end(state))] for place, state in zip(places, found)], 8), end='\n\n')
+    print(constant('ENTRIES', entries, 7))
 
 
 main()

@@ -1,2 +1,3 @@
 pub mod Signatures
 pub mod Steps
+pub mod Laws

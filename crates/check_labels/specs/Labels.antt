@@ -1,5 +1,5 @@
 -- 01's refusal 7: links, images and calls whose label no definition has. Assumes nothing.
-use mathlib.Core.Bool.{Bool, true, false, _&&_}
+use mathlib.Core.Bool.{Bool, true, not, _&&_}
 use mathlib.Core.List.{List, [], _∷_}
 use Prim.Native.Nat.{ℕ, _+_, _-_}
 use lib.Dec.{eqb, leb}
@@ -69,13 +69,12 @@ unfoldable pub isDefined : List ℕ → List (List ℕ) → Part → Bool
 isDefined text ids (Slice from to) = listed ids (identityOf (slice text from to))
 isDefined text ids Nothing = true
 
--- of a list's events: an event that has others behind it is no link or image that no definition has, and no call that no footnote definition has
+-- an event, with those behind it, is no enter of a link or image whose label no definition among all events has, and none of a call whose label no footnote definition has
 unfoldable pub labelHolds : List ℕ → List Event → Event → List Event → Bool
 labelHolds text events e behind =
-    if isEnter e then
-    if named (45 ∷ 46 ∷ []) e then isDefined text (identities 54 text events) (soughtOf behind)
+    if not (isEnter e) then true
+    else if named (45 ∷ 46 ∷ []) e then isDefined text (identities 54 text events) (soughtOf behind)
     else if named (62 ∷ []) e then isDefined text (identities 65 text events) (soughtOf behind)
-    else true
     else true
 
 -- the first of the events from i on that does not hold

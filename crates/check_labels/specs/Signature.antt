@@ -10,7 +10,7 @@ use Rattle.check_labels.specs.declared.Part.the-variants.{Slice}
 use Rattle.check_labels.specs.Labels.{slice, labelOf}
 
 abbrev pub mix : ℕ → ℕ → ℕ
-mix s b = s % 0x100_0000_0000_0000 * 131 + b
+mix s b = s % 0xFF_FFFF_FFFF_FFFB * 131 + b
 
 unfoldable pub signatureFrom : ℕ → List ℕ → ℕ
 signatureFrom s [] = s

@@ -20,13 +20,13 @@ pub enum Labels {
 }
 
 // A part of an element: its slice, or the element has none.
-pub enum Part {
+enum Part {
     Slice(usize, usize),
     Nothing,
 }
 
 // What an event is on the way to an element's part: passed, with so many open behind it; the part, with its slice; or the element's exit.
-pub enum Turn {
+enum Turn {
     On(usize),
     Own(usize, usize),
     Out,
@@ -48,11 +48,11 @@ fn slice(text: &[u8], from: usize, to: usize) -> &[u8]
     &text[from..to]
 }
 
-// One byte more of a signature.
+// One byte more of a signature. The modulus is a prime: under a power of two, words of one signature are easily made.
 fn mixed(s: u64, b: u8) -> u64
     ensures { λ r. ⌜ r ≡ mix s b ⌝ }
 {
-    s % 0x100_0000_0000_0000 * 131 + b as u64
+    s % 0xFF_FFFF_FFFF_FFFB * 131 + b as u64
 }
 
 // A number that labels of one identity share, so that two that differ in it need not be compared.

@@ -1,18 +1,18 @@
--- Every entry of the tables, by one test that antt computes for each table. Assumes nothing.
-use mathlib.Core.Path.{_≡_, refl, sym, ap, _∙_}
+-- The tables say what the rules say: tests that antt computes, for every state and name. Assumes nothing.
+use mathlib.Core.Path.{_≡_, refl, sym}
 use mathlib.Core.Bool.{Bool, true, false, _&&_}
 use mathlib.Core.List.{List, [], _∷_, cons≢nil, head-eq-of-cons-eq, tail-eq-of-cons-eq}
-use Prim.Native.Nat.{ℕ, zero, suc, _+_, _*_, _/_, _%_, _<_}
-use native.Mathlib.Nat.{add-zero, zero-add, add-suc, suc-add}
+use Prim.Native.Nat.{ℕ, _+_, _*_, _/_, _%_, _<_}
 use native.Mathlib.Decide.{ℕ-discrete}
 use native.Mathlib.Omega.{arith}
-use lib.Dec.{eqb, ltb}
+use lib.Dec.{T, eqb, leb, ltb, eqb→eq, leb→le, ltb→lt}
 use lib.ListN.{length, getD}
-use borrow.Author.Tests.{eqb-true, ltb-true}
-use Rattle.lent.proofs.Laws.{and-left, and-right}
-use Rattle.nesting.specs.Grammar.{Item, Item-discrete}
+use Rattle.lent.proofs.Computed.{and-left, and-right, allBelow, computed}
+use Rattle.nesting.specs.declared.Entry.{Entry}
+use Rattle.nesting.specs.declared.Entry.the-variants.{Refused, Into}
+use Rattle.nesting.specs.Grammar.{Item-discrete}
 use Rattle.nesting.specs.Pass.{Rest, Rest-discrete, Turn, refused, entered, turn, mayEnd}
-use Rattle.nesting.specs.Tables.{state, flag, Behind, Inside, Tables}
+use Rattle.nesting.specs.Tables.{state, IsState, Enters, looked, flag, Tables}
 
 -- ---- what may come next can be compared
 
@@ -36,81 +36,55 @@ abbrev decided : {A : Type 0} → Dec A → Bool
 decided (yes p) = true
 decided (no n) = false
 
-holds : {A : Type 0} (d : Dec A) → decided d ≡ true → A
-holds (yes p) e = p
-holds (no n) e = let z : _≡_ {A = ℕ} 0 1 = cc in absurd (omega arith)
+holds : {A : Type 0} (d : Dec A) → T (decided d) → A
+holds (yes p) t = p
+holds (no n) t = absurd t
 
--- ---- a test at each place of a list
+-- ---- the tests
 
--- from the place i on
-abbrev pub every : (ℕ → ℕ → Bool) → ℕ → List ℕ → Bool
-every f i [] = true
-every f i (x ∷ xs) = f i x && every f (suc i) xs
+abbrev is : Rest → ℕ → Bool
+is r x = ltb x 48 && decided (rests (state x) r)
 
-from : (f : ℕ → ℕ → Bool) (xs : List ℕ) (i : ℕ) → every f i xs ≡ true → (k : ℕ) → k < length xs → f (i + k) (getD xs k 0) ≡ true
-from f [] i t k h = absurd (omega arith)
-from f (x ∷ xs) i t zero h = rw add-zero (and-left (f i x) (every f (suc i) xs) t)
-from f (x ∷ xs) i t (suc k) h =
-    let e : i + suc k ≡ suc i + k = omega arith in
-    rw e (from f xs (suc i) (and-right (f i x) (every f (suc i) xs) t) k (omega arith))
+is-state : (r : Rest) (x : ℕ) → T (is r x) → IsState r x
+is-state r x t = (ltb→lt x 48 (and-left (ltb x 48) (decided (rests (state x) r)) t), holds (rests (state x) r) (and-right (ltb x 48) (decided (rests (state x) r)) t))
 
-at : (f : ℕ → ℕ → Bool) (xs : List ℕ) → every f 0 xs ≡ true → (k : ℕ) → k < length xs → f k (getD xs k 0) ≡ true
-at f xs t k h = rw zero-add at (from f xs 0 t k h)
+abbrev entersBy : Turn → Entry → Bool
+entersBy refused Refused = true
+entersBy refused (Into x y) = false
+entersBy (entered inside behind) Refused = false
+entersBy (entered inside behind) (Into x y) = is inside x && is behind y
 
--- 66 places to a row
-abbrev pub rows : (ℕ → ℕ → ℕ → Bool) → ℕ → ℕ → Bool
-rows f k x = f (k / 66) (k % 66) x
+enters-by : (t : Turn) (e : Entry) → T (entersBy t e) → Enters t e
+enters-by refused Refused p = tt
+enters-by refused (Into x y) p = p
+enters-by (entered inside behind) Refused p = p
+enters-by (entered inside behind) (Into x y) p = (is-state inside x (and-left (is inside x) (is behind y) p), is-state behind y (and-right (is inside x) (is behind y) p))
 
-row : (f : ℕ → ℕ → ℕ → Bool) (xs : List ℕ) → length xs ≡ 3168 → every (rows f) 0 xs ≡ true
-    → (q n : ℕ) → q < 48 → n < 66 → f q n (getD xs (q * 66 + n) 0) ≡ true
-row f xs l t q n a b =
-    let d : (q * 66 + n) / 66 ≡ q = omega arith in
-    let m : (q * 66 + n) % 66 ≡ n = omega arith in
-    rw (d, m) at (at (rows f) xs t (q * 66 + n) (omega arith))
+module _ (ss es : List ℕ) where
+  -- 66 names to a state
+  abbrev pub right : ℕ → Bool
+  right k = entersBy (turn (state (k / 66)) (k % 66)) (looked ss es (k / 66) (k % 66))
 
--- ---- the three tests
+  abbrev pub placed : ℕ → Bool
+  placed q = leb (getD ss (q * 2) 0) 39
 
-abbrev is : ℕ → Rest → Bool
-is x r = ltb x 48 && decided (rests (state x) r)
+  abbrev pub flagged : ℕ → Bool
+  flagged q = eqb (getD ss (q * 2 + 1) 0) (flag (mayEnd (state q)))
 
-abbrev isBehind : Turn → ℕ → Bool
-isBehind refused x = eqb x 255
-isBehind (entered inside behind) x = is x behind
-
-abbrev isInside : Turn → ℕ → Bool
-isInside refused x = true
-isInside (entered inside behind) x = is x inside
-
-is-state : (x : ℕ) (r : Rest) → is x r ≡ true → (x < 48) × (state x ≡ r)
-is-state x r t = (ltb-true x 48 (and-left (ltb x 48) (decided (rests (state x) r)) t), holds (rests (state x) r) (and-right (ltb x 48) (decided (rests (state x) r)) t))
-
-is-behind : (t : Turn) (x : ℕ) → isBehind t x ≡ true → Behind t x
-is-behind refused x e = eqb-true x 255 e
-is-behind (entered inside behind) x e = is-state x behind e
-
-is-inside : (t : Turn) (x : ℕ) → isInside t x ≡ true → Inside t x
-is-inside refused x e = tt
-is-inside (entered inside behind) x e = is-state x inside e
-
-abbrev pub nextRight : ℕ → ℕ → ℕ → Bool
-nextRight q n x = isBehind (turn (state q) n) x
-
-abbrev pub startRight : ℕ → ℕ → ℕ → Bool
-startRight q n x = isInside (turn (state q) n) x
-
-abbrev pub doneRight : ℕ → ℕ → Bool
-doneRight q x = eqb x (flag (mayEnd (state q)))
-
--- the tables are right where the tests pass
-module _ (nexts starts dones : List ℕ) where
-  pub right : length nexts ≡ 3168 → length starts ≡ 3168 → length dones ≡ 48
-      → every (rows nextRight) 0 nexts ≡ true → every (rows startRight) 0 starts ≡ true → every doneRight 0 dones ≡ true → Tables nexts starts dones
-  right l m n f g h =
+  pub tested : length ss ≡ 96 → length es ≡ 315 → T (allBelow 48 placed) → T (allBelow 48 flagged) → allBelow 3168 right ≡ true → Tables ss es
+  tested l m f g h =
       record {
-        next-long = l;
-        start-long = m;
-        done-long = n;
-        behind = λ q n a b. is-behind (turn (state q) n) (getD nexts (q * 66 + n) 0) (row nextRight nexts l f q n a b);
-        inside = λ q n a b. is-inside (turn (state q) n) (getD starts (q * 66 + n) 0) (row startRight starts m g q n a b);
-        ends = λ q a. eqb-true (getD dones q 0) (flag (mayEnd (state q))) (at doneRight dones h q (rw n a));
+        rows = record {
+          long = l;
+          places = λ q a. leb→le (getD ss (q * 2) 0) 39 (computed placed 48 f q a);
+          ends = λ q a. eqb→eq (getD ss (q * 2 + 1) 0) (flag (mayEnd (state q))) (computed flagged 48 g q a);
+        };
+        long = m;
+        agree = λ q n a b. enters-by (turn (state q) n) (looked ss es q n) (row q n a b);
       }
+    where
+      row : (q n : ℕ) → q < 48 → n < 66 → T (entersBy (turn (state q) n) (looked ss es q n))
+      row q n a b =
+          let d : (q * 66 + n) / 66 ≡ q = omega arith in
+          let m : (q * 66 + n) % 66 ≡ n = omega arith in
+          rw (d, m) at (computed right 3168 (rw h tt) (q * 66 + n) (omega arith))

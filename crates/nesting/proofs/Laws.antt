@@ -1,7 +1,6 @@
 -- A turn of the walk, over plain lists. Assumes nothing.
 use mathlib.Core.Path.{_≡_, refl, sym, ap, _∙_}
 use mathlib.Core.Logic.{_≢_}
-use mathlib.Core.Bool.{Bool, true, false, cond, true≢false}
 use mathlib.Core.List.{List, [], _∷_}
 use Prim.Native.Nat.{ℕ, zero, suc, _+_, _-_, _*_, _/_, _≤_, _<_}
 use native.Mathlib.Nat.{add-zero, sub-zero}
@@ -13,10 +12,15 @@ use borrow.Author.Tests.{ne-eqb}
 use borrow.Author.Count.{below-more}
 use Rattle.nesting.specs.declared.Nesting.{Nesting}
 use Rattle.nesting.specs.declared.Nesting.the-variants.{Yes, At}
+use Rattle.nesting.specs.declared.Entry.{Entry}
+use Rattle.nesting.specs.declared.Entry.the-variants.{Refused, Into}
+use Rattle.nesting.specs.declared.Exit.{Exit}
+use Rattle.nesting.specs.declared.Exit.the-variants.{Stays, To}
 use Rattle.nesting.specs.Tag.{Tag, enter, exit, tagOf, tags, tagsOf}
-use Rattle.nesting.specs.Pass.{Rest, Turn, refused, entered, turn, mayEnd, Open, stop, go, step, nestFrom, nestOf}
-use Rattle.nesting.specs.Tables.{states, state, flag, Behind, Inside, Tables}
-use Rattle.nesting.proofs.Step.{stops, goes, closed-end, open-end, no-turn, none-open, full, not-entered, is-entered, not-newest, missing, through, closed}
+use Rattle.nesting.specs.Pass.{Rest, turn, leave, Open, stop, go, step, nestFrom, nestOf}
+use Rattle.nesting.specs.Tables.{states, state, Enters, Leaves}
+use Rattle.nesting.proofs.Step.{stops, goes, closed-end, open-end, none-open, too-many, not-entered, not-left, is-left, Moves, enters, by-step}
+use Rattle.nesting.proofs.Look.{is-refused, is-entered, stays, leaves-to}
 
 -- ---- the open elements, newest first, of the first d entries of the arrays
 
@@ -48,59 +52,14 @@ pub record Inv (b ns bs : List ℕ) (d q i : ℕ) : Type 0 where
   pub all-states : (j : ℕ) → j < d → getD bs j 0 < 48
   pub same : left b ns bs d q i ≡ nestOf (tagsOf b)
 
--- ---- a row and a column of the tables
-
-module _ {nexts starts dones : List ℕ} (tables : Tables nexts starts dones) (q : ℕ) (known : q < 48) where
-  abbrev after : ℕ → ℕ
-  after n = getD nexts (q * 66 + n) 0
-
-  abbrev inner : ℕ → ℕ
-  inner n = getD starts (q * 66 + n) 0
-
-  refused-there : (n : ℕ) → n ≤ 65 → after n ≡ 255 → turn (state q) n ≡ refused
-  refused-there n h e = pick (turn (state q) n) (tables .behind q n known (omega arith))
-    where
-      pick : (t : Turn) → Behind t (after n) → t ≡ refused
-      pick refused b = refl
-      pick (entered inside behind) b = absurd (omega arith)
-
-  record Entered (n : ℕ) : Type 0 where
-    turns : turn (state q) n ≡ entered (state (inner n)) (state (after n))
-    after-state : after n < 48
-    inner-state : inner n < 48
-
-  entered-there : (n : ℕ) → n ≤ 65 → (after n ≡ 255 → ⊥) → Entered n
-  entered-there n h e = pick (turn (state q) n) refl (tables .behind q n known (omega arith)) (tables .inside q n known (omega arith))
-    where
-      pick : (t : Turn) → turn (state q) n ≡ t → Behind t (after n) → Inside t (inner n) → Entered n
-      pick refused p b s = absurd (e b)
-      pick (entered inside behind) p b s = record { turns = rw (b .1, s .1) p; after-state = b .0; inner-state = s .0 }
-
-  ended-there : getD dones q 0 ≡ 0 → mayEnd (state q) ≡ false
-  ended-there e = pick (mayEnd (state q)) (sym (tables .ends q known) ∙ e)
-    where
-      pick : (t : Bool) → flag t ≡ 0 → t ≡ false
-      pick true p = absurd (omega arith)
-      pick false p = refl
-
-  ends-there : (getD dones q 0 ≡ 0 → ⊥) → mayEnd (state q) ≡ true
-  ends-there e = pick (mayEnd (state q)) (λ p. e (tables .ends q known ∙ p))
-    where
-      pick : (t : Bool) → (flag t ≡ 0 → ⊥) → t ≡ true
-      pick true p = refl
-      pick false p = absurd (p refl)
-
 -- ---- a turn of the loop
 
-module _ {nexts starts dones b ns bs : List ℕ} {d q i : ℕ} (tables : Tables nexts starts dones) (v : Inv b ns bs d q i) (more : i < length b / 20) where
+module _ {b ns bs : List ℕ} {d q i : ℕ} (v : Inv b ns bs d q i) (more : i < length b / 20) where
   abbrev kind : ℕ
   kind = getD b (i * 20) 0
 
   abbrev name : ℕ
   name = getD b (i * 20 + 1) 0
-
-  abbrev at : ℕ
-  at = q * 66 + name
 
   abbrev here : List Tag
   here = tags (length b / 20 - i) (drop (i * 20) b)
@@ -123,81 +82,62 @@ module _ {nexts starts dones b ns bs : List ℕ} {d q i : ℕ} (tables : Tables 
   exiting : (kind ≡ 0 → ⊥) → here ≡ exit name ∷ behind
   exiting k = cut ∙ rw (ne-eqb kind 0 k)
 
-  newest : (d ≡ 0 → ⊥) → os ≡ record { name = getD ns (d - 1) 0; behind = state (getD bs (d - 1) 0) } ∷ stackOf (d - 1) ns bs
+  abbrev top : Open
+  top = record { name = getD ns (d - 1) 0; behind = state (getD bs (d - 1) 0) }
+
+  newest : (d ≡ 0 → ⊥) → os ≡ top ∷ stackOf (d - 1) ns bs
   newest h = let e : d ≡ suc (d - 1) = omega arith in ap (λ (x : ℕ). stackOf x ns bs) e
 
   refuse : (t : Tag) → here ≡ t ∷ behind → step t (state q) os ≡ stop → At i ≡ nestOf (tagsOf b)
   refuse t p e = sym (stops i t behind (state q) os e) ∙ (rw p at (v .same))
 
-  pass : (t : Tag) {r : Rest} {ps : List Open} → here ≡ t ∷ behind → step t (state q) os ≡ go r ps → nestFrom (i + 1) r ps behind ≡ nestOf (tagsOf b)
-  pass t p e = sym (goes i t behind (state q) os e) ∙ (rw p at (v .same))
+  pass : {t : Tag} {r : Rest} {ps : List Open} → here ≡ t ∷ behind → Moves t (state q) os (go r ps) → nestFrom (i + 1) r ps behind ≡ nestOf (tagsOf b)
+  pass p m = sym (goes i behind m) ∙ (rw p at (v .same))
 
   pub too-deep : kind ≡ 0 → d ≡ 64 → At i ≡ nestOf (tagsOf b)
-  too-deep k e = refuse (enter name) (entering k) (full name (state q) os (stack-length d ns bs ∙ e))
+  too-deep k e = refuse (enter name) (entering k) (too-many name (state q) os (omega (arith, stack-length d ns bs)))
 
-  pub unnamed : kind ≡ 0 → 65 < name → At i ≡ nestOf (tagsOf b)
-  unnamed k h = refuse (enter name) (entering k) (not-entered name (state q) os (no-turn (state q) name h))
+  pub untaken : (r : Entry) → kind ≡ 0 → Enters (turn (state q) name) r → r ≡ Refused → At i ≡ nestOf (tagsOf b)
+  untaken r k a e = refuse (enter name) (entering k) (not-entered name (state q) os (is-refused (turn (state q) name) (rw e at a)))
 
-  pub untaken : kind ≡ 0 → name ≤ 65 → getD nexts at 0 ≡ 255 → At i ≡ nestOf (tagsOf b)
-  untaken k h e = refuse (enter name) (entering k) (not-entered name (state q) os (refused-there tables q (v .in-states) name h e))
-
-  pub inside-state : name ≤ 65 → (getD nexts at 0 ≡ 255 → ⊥) → getD starts at 0 < 48
-  inside-state h e = entered-there tables q (v .in-states) name h e .inner-state
-
-  pub behind-state : (d ≡ 0 → ⊥) → getD bs (d - 1) 0 < 48
-  behind-state h = v .all-states (d - 1) (omega arith)
-
-  pub taken : kind ≡ 0 → (d ≡ 64 → ⊥) → name ≤ 65 → (getD nexts at 0 ≡ 255 → ⊥)
-      → Inv b (set ns d name) (set bs d (getD nexts at 0)) (d + 1) (getD starts at 0) (i + 1)
-  taken k l h e =
-      let w = entered-there tables q (v .in-states) name h e in
+  pub taken : (r : Entry) (x y : ℕ) → kind ≡ 0 → (d ≡ 64 → ⊥) → Enters (turn (state q) name) r → r ≡ Into x y → Inv b (set ns d name) (set bs d y) (d + 1) x (i + 1)
+  taken r x y k l a e =
+      let w = is-entered q name (turn (state q) name) x y refl (rw e at a) in
       let f : d < 64 = omega (arith, v .deep) in
-      let x = getD nexts at 0 in
       let m : d < length ns = omega (arith, v .names-long) in
       let n : d < length bs = omega (arith, v .behind-long) in
-      let s : stackOf (d + 1) (set ns d name) (set bs d x) ≡ record { name = name; behind = state x } ∷ os =
-      rw (add-one d, getD-set-same ns d name 0 m, getD-set-same bs d x 0 n, stack-kept d d ns bs name x (omega arith)) in
+      let s : stackOf (d + 1) (set ns d name) (set bs d y) ≡ record { name = name; behind = state y } ∷ os =
+      rw (add-one d, getD-set-same ns d name 0 m, getD-set-same bs d y 0 n, stack-kept d d ns bs name y (omega arith)) in
       record {
         within = omega arith;
         deep = omega arith;
         names-long = length-set ns d name ∙ v .names-long;
-        behind-long = length-set bs d x ∙ v .behind-long;
-        in-states = w .inner-state;
-        all-states = below-more _ _ (λ j h. rw (getD-set-other bs d j x 0 (λ p. omega arith)) (v .all-states j h)) (rw (getD-set-same bs d x 0 n) (w .after-state));
-        same = rw s (pass (enter name) (entering k) (is-entered name (state q) os (rw stack-length f) (w .turns)));
+        behind-long = length-set bs d y ∙ v .behind-long;
+        in-states = w .inside-state;
+        all-states = below-more _ _ (λ j h. rw (getD-set-other bs d j y 0 (λ p. omega arith)) (v .all-states j h)) (rw (getD-set-same bs d y 0 n) (w .behind-state));
+        same = rw s (pass (entering k) (enters (rw stack-length f) (w .turns)));
       }
 
   pub unopened : (kind ≡ 0 → ⊥) → d ≡ 0 → At i ≡ nestOf (tagsOf b)
   unopened k e = refuse (exit name) (exiting k) (rw e (none-open name (state q)))
 
-  pub older : (kind ≡ 0 → ⊥) → (d ≡ 0 → ⊥) → (getD ns (d - 1) 0 ≡ name → ⊥) → At i ≡ nestOf (tagsOf b)
-  older k h u = refuse (exit name) (exiting k) (rw (newest h) (not-newest name (state q) _ (stackOf (d - 1) ns bs) u))
+  pub behind-state : (d ≡ 0 → ⊥) → getD bs (d - 1) 0 < 48
+  behind-state h = v .all-states (d - 1) (omega arith)
 
-  pub unfinished : (kind ≡ 0 → ⊥) → (d ≡ 0 → ⊥) → 2 < name → getD dones q 0 ≡ 0 → At i ≡ nestOf (tagsOf b)
-  unfinished k h l e = refuse (exit name) (exiting k) (rw (newest h) (missing name (state q) _ (stackOf (d - 1) ns bs) l (ended-there tables q (v .in-states) e)))
+  pub unleft : (r : Exit) → (kind ≡ 0 → ⊥) → (d ≡ 0 → ⊥) → Leaves (leave (state q) top name) r → r ≡ Stays → At i ≡ nestOf (tagsOf b)
+  unleft r k h a e = refuse (exit name) (exiting k) (rw (newest h) (not-left name (state q) top (stackOf (d - 1) ns bs) (stays (leave (state q) top name) (rw e at a))))
 
-  pub left-thin : (kind ≡ 0 → ⊥) → (d ≡ 0 → ⊥) → getD ns (d - 1) 0 ≡ name → name ≤ 2 → Inv b ns bs (d - 1) q (i + 1)
-  left-thin k h u l =
+  pub left-to : (r : Exit) (x : ℕ) → (kind ≡ 0 → ⊥) → (d ≡ 0 → ⊥) → Leaves (leave (state q) top name) r → r ≡ To x → Inv b ns bs (d - 1) x (i + 1)
+  left-to r x k h a e =
+      let w = leaves-to (leave (state q) top name) x (rw e at a) in
       record {
         within = omega arith;
         deep = omega (arith, v .deep);
         names-long = v .names-long;
         behind-long = v .behind-long;
-        in-states = v .in-states;
+        in-states = w .0;
         all-states = λ j m. v .all-states j (omega arith);
-        same = pass (exit name) (exiting k) (rw (newest h) (through name (state q) _ (stackOf (d - 1) ns bs) u l));
-      }
-
-  pub left-whole : (kind ≡ 0 → ⊥) → (d ≡ 0 → ⊥) → getD ns (d - 1) 0 ≡ name → 2 < name → (getD dones q 0 ≡ 0 → ⊥) → Inv b ns bs (d - 1) (getD bs (d - 1) 0) (i + 1)
-  left-whole k h u l e =
-      record {
-        within = omega arith;
-        deep = omega (arith, v .deep);
-        names-long = v .names-long;
-        behind-long = v .behind-long;
-        in-states = behind-state h;
-        all-states = λ j m. v .all-states j (omega arith);
-        same = pass (exit name) (exiting k) (rw (newest h) (closed name (state q) _ (stackOf (d - 1) ns bs) u l (ends-there tables q (v .in-states) e)));
+        same = pass (exiting k) (rw (newest h) (by-step (is-left name (state q) top (stackOf (d - 1) ns bs) (w .1))));
       }
 
 module _ {b ns bs : List ℕ} {d q i : ℕ} (v : Inv b ns bs d q i) (end : length b / 20 ≤ i) where

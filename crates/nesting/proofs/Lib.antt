@@ -1,4 +1,11 @@
-pub mod Rules
+pub mod Next
+pub mod Clear
+pub mod Steps
 pub mod Step
+pub mod Look
 pub mod Laws
 pub mod Entries
+pub mod Passes
+pub mod Grows
+pub mod Fault
+pub mod Ahead

@@ -1,15 +1,18 @@
 -- 01's rules of nesting: what each element holds, in order. Assumes nothing.
-use mathlib.Core.Bool.{Bool, true, false}
 use mathlib.Core.List.{List, [], _∷_}
 use Prim.Native.Nat.{ℕ, _-_}
-use lib.Dec.{eqb, ltb}
+use lib.Dec.{ltb}
 use lib.ListN.{getD}
 use Rattle.lent.specs.Bytes.{if_then_else_, oneOf}
 
--- one of these kinds; [one of them]; any number of them; one or more of them; and chain (9 ∷ 10 ∷ []) is [9 [10]]
+-- one of these kinds; [one of them]; any number of them; and chain (9 ∷ 10 ∷ []) is [9 [10]]
 pub data Item : Type 0 where
-  one opt any some chain : List ℕ → Item
+  one opt any chain : List ℕ → Item
   deriving Discrete as Item-discrete
+
+-- one or more of them
+abbrev pub some : List ℕ → List Item
+some ks = one ks ∷ any ks ∷ []
 
 abbrev pub flow : List ℕ
 flow = 12 ∷ 13 ∷ 16 ∷ 19 ∷ 20 ∷ 21 ∷ 22 ∷ 27 ∷ 28 ∷ 35 ∷ 53 ∷ 57 ∷ 63 ∷ []
@@ -44,8 +47,8 @@ rules =
     ∷ rule (7 ∷ []) (one (8 ∷ []) ∷ chain (9 ∷ 10 ∷ []) ∷ one (11 ∷ []) ∷ [])
     ∷ rule (13 ∷ []) (one (14 ∷ []) ∷ opt (15 ∷ []) ∷ opt (14 ∷ []) ∷ [])
     ∷ rule (16 ∷ []) (one (17 ∷ []) ∷ one (18 ∷ []) ∷ [])
-    ∷ rule (21 ∷ []) (some (23 ∷ []) ∷ [])
-    ∷ rule (22 ∷ []) (some (66 ∷ []) ∷ [])
+    ∷ rule (21 ∷ []) (some (23 ∷ []))
+    ∷ rule (22 ∷ []) (some (66 ∷ []))
     ∷ rule (23 ∷ []) (one (24 ∷ []) ∷ any flow ∷ [])
     ∷ rule (66 ∷ []) (one (67 ∷ []) ∷ any flow ∷ [])
     ∷ rule (24 ∷ []) (one (26 ∷ []) ∷ one (25 ∷ []) ∷ [])
@@ -65,7 +68,7 @@ rules =
     ∷ rule (53 ∷ []) (one (54 ∷ []) ∷ opt (55 ∷ []) ∷ opt (56 ∷ []) ∷ [])
     ∷ rule (57 ∷ []) (one (58 ∷ []) ∷ opt (59 ∷ []) ∷ [])
     ∷ rule (58 ∷ []) (one (60 ∷ []) ∷ [])
-    ∷ rule (59 ∷ []) (some (60 ∷ []) ∷ [])
+    ∷ rule (59 ∷ []) (some (60 ∷ []))
     ∷ rule (60 ∷ []) (any (61 ∷ []) ∷ [])
     ∷ rule (63 ∷ []) (one (64 ∷ []) ∷ any flow ∷ [])
     ∷ rule (64 ∷ []) (one (65 ∷ []) ∷ [])

@@ -4,7 +4,7 @@ use mathlib.Core.Bool.{true}
 use mathlib.Core.List.{List, [], _∷_, _++_}
 use Prim.Native.Nat.{ℕ, suc, max, _≤_}
 use Rattle.lent.specs.Bytes.{oneOf}
-use Rattle.nesting.specs.Grammar.{Item, one, opt, any, some, chain, nameOf, holds, whole}
+use Rattle.nesting.specs.Grammar.{Item, one, opt, any, chain, nameOf, holds, whole}
 use Rattle.nesting.specs.Tag.{Tag, enter, exit}
 
 -- an element with its name and what it holds, and what stands behind it
@@ -25,12 +25,15 @@ depth (tree n cs f) = max (suc (depth cs)) (depth f)
 -- children of the kinds cs are what the items ask for, in order
 pub data Takes : List Item → List ℕ → Type 0 where
   nothing : Takes [] []
+  -- one of ks, then what the other items ask for
   one-taken : {k : ℕ} {ks cs : List ℕ} {is : List Item} → oneOf ks k ≡ true → Takes is cs → Takes (one ks ∷ is) (k ∷ cs)
+  -- [one of ks]
   opt-none : {ks cs : List ℕ} {is : List Item} → Takes is cs → Takes (opt ks ∷ is) cs
   opt-taken : {k : ℕ} {ks cs : List ℕ} {is : List Item} → oneOf ks k ≡ true → Takes is cs → Takes (opt ks ∷ is) (k ∷ cs)
+  -- any number of ks
   any-none : {ks cs : List ℕ} {is : List Item} → Takes is cs → Takes (any ks ∷ is) cs
   any-taken : {k : ℕ} {ks cs : List ℕ} {is : List Item} → oneOf ks k ≡ true → Takes (any ks ∷ is) cs → Takes (any ks ∷ is) (k ∷ cs)
-  some-taken : {k : ℕ} {ks cs : List ℕ} {is : List Item} → oneOf ks k ≡ true → Takes (any ks ∷ is) cs → Takes (some ks ∷ is) (k ∷ cs)
+  -- [9 [10]]
   chain-none : {ks cs : List ℕ} {is : List Item} → Takes is cs → Takes (chain ks ∷ is) cs
   chain-taken : {k : ℕ} {ks cs : List ℕ} {is : List Item} → Takes (chain ks ∷ is) cs → Takes (chain (k ∷ ks) ∷ is) (k ∷ cs)
 
@@ -41,8 +44,10 @@ pub data Children : List ℕ → Forest → Type 0 where
   through : {n : ℕ} {ks ls : List ℕ} {cs f : Forest} → n ≤ 2 → Children ks cs → Children ls f → Children (ks ++ ls) (tree n cs f)
   -- 3 and 4 may stand anywhere and hold nothing
   empty : {n : ℕ} {ls : List ℕ} {f : Forest} → 3 ≤ n → n ≤ 4 → Children ls f → Children ls (tree n nil f)
+  -- any other
   child : {k : ℕ} {ks ls : List ℕ} {cs f : Forest} → 5 ≤ nameOf k → Takes (holds k) ks → Children ks cs → Children ls f → Children (k ∷ ls) (tree (nameOf k) cs f)
 
+-- enters and exits pair by name: the list is a forest's, which the whole takes, with at most 64 open at once
 pub record Nests (ts : List Tag) : Type 0 where
   pub forest : Forest
   pub kinds : List ℕ

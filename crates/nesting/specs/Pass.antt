@@ -1,13 +1,14 @@
 -- The pass for 4: the list nests, or the event at which it does not. Assumes nothing.
 use mathlib.Core.Bool.{Bool, true, false, _&&_, _||_}
 use mathlib.Core.List.{List, [], _∷_}
+use mathlib.Core.Option.{Option, none, some}
 use Prim.Native.Nat.{ℕ, _+_}
 use lib.Dec.{eqb, leb}
 use lib.ListN.{length}
 use Rattle.lent.specs.Bytes.{if_then_else_}
 use Rattle.nesting.specs.declared.Nesting.{Nesting}
 use Rattle.nesting.specs.declared.Nesting.the-variants.{Yes, At}
-use Rattle.nesting.specs.Grammar.{Item, one, opt, any, some, chain, nameOf, holds, whole}
+use Rattle.nesting.specs.Grammar.{Item, one, opt, any, chain, nameOf, holds, whole}
 use Rattle.nesting.specs.Tag.{Tag, enter, exit}
 
 -- ---- along a rule
@@ -27,7 +28,6 @@ next [] n = refuse
 next (one ks ∷ is) n = among ks n is refuse
 next (opt ks ∷ is) n = among ks n is (next is n)
 next (any ks ∷ is) n = among ks n (any ks ∷ is) (next is n)
-next (some ks ∷ is) n = among ks n (any ks ∷ is) refuse
 next (chain [] ∷ is) n = next is n
 next (chain (k ∷ ks) ∷ is) n = among (k ∷ []) n (chain ks ∷ is) (next is n)
 
@@ -37,7 +37,6 @@ done [] = true
 done (one ks ∷ is) = false
 done (opt ks ∷ is) = done is
 done (any ks ∷ is) = done is
-done (some ks ∷ is) = false
 done (chain ks ∷ is) = done is
 
 -- ---- along the list
@@ -83,13 +82,21 @@ abbrev pub opened : ℕ → List Open → Turn → Step
 opened n os refused = stop
 opened n os (entered inside behind) = go inside (record { name = n; behind = behind } ∷ os)
 
--- at most 64 are open; an exit is of the newest, with nothing missing
+-- an exit is of the newest open, with nothing missing: what may come next, or none
+unfoldable pub leave : Rest → Open → ℕ → Option Rest
+leave r o n =
+    if eqb (o .name) n && (leb n 2 || mayEnd r) then some (if leb n 2 then r else o .behind)
+    else none
+
+abbrev pub closed : List Open → Option Rest → Step
+closed os none = stop
+closed os (some r) = go r os
+
+-- at most 64 are open
 unfoldable pub step : Tag → Rest → List Open → Step
 step (enter n) r os = if leb 64 (length os) then stop else opened n os (turn r n)
 step (exit n) r [] = stop
-step (exit n) r (o ∷ os) =
-    if eqb (o .name) n && (leb n 2 || mayEnd r) then go (if leb n 2 then r else o .behind) os
-    else stop
+step (exit n) r (o ∷ os) = closed os (leave r o n)
 
 abbrev pub ended : ℕ → List Open → Nesting
 ended i [] = Yes

@@ -1,13 +1,20 @@
--- The tables that the code goes by: what may come next is a number there. Assumes nothing.
+-- The code's tables, in which what may come next is a number: words that only the contracts of private functions use. Assumes nothing.
 use mathlib.Core.Path.{_≡_}
 use mathlib.Core.Bool.{Bool, true, false}
 use mathlib.Core.List.{List, [], _∷_}
-use Prim.Native.Nat.{ℕ, _+_, _*_, _<_}
+use mathlib.Core.Option.{Option, none, some}
+use Prim.Native.Nat.{ℕ, _+_, _*_, _≤_, _<_}
+use lib.Dec.{eqb, leb}
 use lib.ListN.{length, getD}
-use Rattle.nesting.specs.Grammar.{one, opt, any, some, chain, flow, inline, plain}
+use Rattle.lent.specs.Bytes.{if_then_else_}
+use Rattle.nesting.specs.declared.Entry.{Entry}
+use Rattle.nesting.specs.declared.Entry.the-variants.{Refused, Into}
+use Rattle.nesting.specs.declared.Exit.{Exit}
+use Rattle.nesting.specs.declared.Exit.the-variants.{Stays, To}
+use Rattle.nesting.specs.Grammar.{one, opt, any, chain, flow, inline, plain}
 use Rattle.nesting.specs.Pass.{Rest, shut, rest, Turn, refused, entered, turn, mayEnd}
 
--- the whole is 1
+-- by its number: 0 is in 3 and 4, 1 the whole
 unfoldable pub states : List Rest
 states =
     shut
@@ -24,9 +31,9 @@ states =
     ∷ rest (opt (14 ∷ []) ∷ [])
     ∷ rest (one (17 ∷ []) ∷ one (18 ∷ []) ∷ [])
     ∷ rest (one (18 ∷ []) ∷ [])
-    ∷ rest (some (23 ∷ []) ∷ [])
+    ∷ rest (one (23 ∷ []) ∷ any (23 ∷ []) ∷ [])
     ∷ rest (any (23 ∷ []) ∷ [])
-    ∷ rest (some (66 ∷ []) ∷ [])
+    ∷ rest (one (66 ∷ []) ∷ any (66 ∷ []) ∷ [])
     ∷ rest (any (66 ∷ []) ∷ [])
     ∷ rest (one (24 ∷ []) ∷ any flow ∷ [])
     ∷ rest (one (67 ∷ []) ∷ any flow ∷ [])
@@ -53,7 +60,7 @@ states =
     ∷ rest (one (58 ∷ []) ∷ opt (59 ∷ []) ∷ [])
     ∷ rest (opt (59 ∷ []) ∷ [])
     ∷ rest (one (60 ∷ []) ∷ [])
-    ∷ rest (some (60 ∷ []) ∷ [])
+    ∷ rest (one (60 ∷ []) ∷ any (60 ∷ []) ∷ [])
     ∷ rest (any (60 ∷ []) ∷ [])
     ∷ rest (any (61 ∷ []) ∷ [])
     ∷ rest (one (64 ∷ []) ∷ any flow ∷ [])
@@ -64,26 +71,50 @@ unfoldable pub state : ℕ → Rest
 unfolding states
 state q = getD states q shut
 
--- an entry of NEXT: 255, or the number of what may come behind the element
-abbrev pub Behind : Turn → ℕ → Type 0
-Behind refused x = x ≡ 255
-Behind (entered inside behind) x = (x < 48) × (state x ≡ behind)
+abbrev pub IsState : Rest → ℕ → Type 0
+IsState r x = (x < 48) × (state x ≡ r)
 
--- an entry of START: the number of what may come in it
-abbrev pub Inside : Turn → ℕ → Type 0
-Inside refused x = Unit {0}
-Inside (entered inside behind) x = (x < 48) × (state x ≡ inside)
+-- an answer says what becomes of an element
+abbrev pub Enters : Turn → Entry → Type 0
+Enters refused Refused = Unit {0}
+Enters refused (Into x y) = ⊥
+Enters (entered inside behind) Refused = ⊥
+Enters (entered inside behind) (Into x y) = IsState inside x × IsState behind y
 
--- an entry of DONE
+-- an answer says what becomes of an exit
+abbrev pub Leaves : Option Rest → Exit → Type 0
+Leaves none Stays = Unit {0}
+Leaves none (To x) = ⊥
+Leaves (some r) Stays = ⊥
+Leaves (some r) (To x) = IsState r x
+
+-- where the entry of the name n at the state q lies
+abbrev pub placeOf : List ℕ → ℕ → ℕ → ℕ
+placeOf states q n = (getD states (q * 2) 0 + n) * 3
+
+-- an entry of the state q, or of another
+abbrev pub entryAt : List ℕ → ℕ → ℕ → Entry
+entryAt entries q at = if eqb (getD entries at 0) q then Into (getD entries (at + 1) 0) (getD entries (at + 2) 0) else Refused
+
+-- what is looked up
+abbrev pub looked : List ℕ → List ℕ → ℕ → ℕ → Entry
+looked states entries q n =
+    if leb n 4 then (if eqb q 0 then Refused else if leb n 2 then Into q q else Into 0 q)
+    else entryAt entries q (placeOf states q n)
+
+-- 1 where nothing more has to come
 abbrev pub flag : Bool → ℕ
 flag true = 1
 flag false = 0
 
--- 66 names to a state
-pub record Tables (next start done : List ℕ) : Type 0 where
-  pub next-long : length next ≡ 3168
-  pub start-long : length start ≡ 3168
-  pub done-long : length done ≡ 48
-  pub behind : (q n : ℕ) → q < 48 → n < 66 → Behind (turn (state q) n) (getD next (q * 66 + n) 0)
-  pub inside : (q n : ℕ) → q < 48 → n < 66 → Inside (turn (state q) n) (getD start (q * 66 + n) 0)
-  pub ends : (q : ℕ) → q < 48 → getD done q 0 ≡ flag (mayEnd (state q))
+-- 2 bytes to a state
+pub record States (states : List ℕ) : Type 0 where
+  pub long : length states ≡ 96
+  pub places : (q : ℕ) → q < 48 → getD states (q * 2) 0 ≤ 39
+  pub ends : (q : ℕ) → q < 48 → getD states (q * 2 + 1) 0 ≡ flag (mayEnd (state q))
+
+-- 3 bytes to an entry
+pub record Tables (states entries : List ℕ) : Type 0 where
+  pub rows : States states
+  pub long : length entries ≡ 315
+  pub agree : (q n : ℕ) → q < 48 → n < 66 → Enters (turn (state q) n) (looked states entries q n)

@@ -1,16 +1,16 @@
 -- The loop's invariant: what is left says what the whole says. Assumes nothing.
 use Prim.Native.Nat.{_-_}
 use mathlib.Core.Path.{refl}
-use Rattle.nesting.proofs.Laws.{Inv, at-first, too-deep, unnamed, untaken, taken, unopened, inside-state, behind-state, older, unfinished, left-thin, left-whole, all-closed, left-open}
-use borrow.Author.Needs.{fits-under, needs}
+use Rattle.nesting.proofs.Laws.{Inv, at-first, too-deep, untaken, taken, unopened, behind-state, unleft, left-to, all-closed, left-open}
+use borrow.Author.Needs.{needs}
 use Rattle.nesting.proofs.walk.Statement.{statement}
 use Rattle.nesting.proofs.walk.Tie as tie
 
 abbrev Inv-loop : tie.InvT-loop
-Inv-loop events next start done n names₀ behind₀ depth₀ state₀ i₀ names behind depth state i = Inv events names behind depth state i
+Inv-loop events states entries n names₀ behind₀ depth₀ here₀ i₀ names behind depth here i = Inv events names behind depth here i
 
 abbrev μ-loop : tie.MeasureT-loop
-μ-loop events next start done n names₀ behind₀ depth₀ state₀ i₀ names behind depth state i = n - i
+μ-loop events states entries n names₀ behind₀ depth₀ here₀ i₀ names behind depth here i = n - i
 
 loop-holds : tie.Need-loop-holds Inv-loop μ-loop
 loop-holds c = at-first _ _ _ refl refl
@@ -33,23 +33,17 @@ shared-slice-read-if1 c = search needs
 returns : tie.Need-returns Inv-loop μ-loop
 returns c = search too-deep
 
+enter-requires : tie.Need-enter-requires Inv-loop μ-loop
+enter-requires c κs = search needs
+
+enum-known-entry : tie.Need-enum-known-entry Inv-loop μ-loop
+enum-known-entry c = search needs
+
+enum-told : tie.Need-enum-told Inv-loop μ-loop
+enum-told c = search needs
+
 returns-2 : tie.Need-returns-2 Inv-loop μ-loop
-returns-2 c = search unnamed
-
-mul-at : tie.Need-mul-at Inv-loop μ-loop
-mul-at c = search needs
-
-cast-at : tie.Need-cast-at Inv-loop μ-loop
-cast-at c = search needs
-
-add-at : tie.Need-add-at Inv-loop μ-loop
-add-at c = search needs
-
-shared-slice-read-after : tie.Need-shared-slice-read-after Inv-loop μ-loop
-shared-slice-read-after c = search needs
-
-returns-3 : tie.Need-returns-3 Inv-loop μ-loop
-returns-3 c = search untaken
+returns-2 c = search untaken
 
 array-write-names : tie.Need-array-write-names Inv-loop μ-loop
 array-write-names c = search needs
@@ -60,12 +54,6 @@ array-write-behind c = search needs
 add-depth : tie.Need-add-depth Inv-loop μ-loop
 add-depth c = search needs
 
-shared-slice-read-state : tie.Need-shared-slice-read-state Inv-loop μ-loop
-shared-slice-read-state c = search needs
-
-cast-state : tie.Need-cast-state Inv-loop μ-loop
-cast-state c = fits-under _ _ 48 (search inside-state) tt
-
 add-i : tie.Need-add-i Inv-loop μ-loop
 add-i c = search needs
 
@@ -75,17 +63,29 @@ loop-less c = search needs
 loop-again : tie.Need-loop-again Inv-loop μ-loop
 loop-again c = search taken
 
-returns-4 : tie.Need-returns-4 Inv-loop μ-loop
-returns-4 c = search unopened
+returns-3 : tie.Need-returns-3 Inv-loop μ-loop
+returns-3 c = search unopened
 
 sub-depth : tie.Need-sub-depth Inv-loop μ-loop
 sub-depth c = search needs
 
-array-read-if6 : tie.Need-array-read-if6 Inv-loop μ-loop
-array-read-if6 c = search needs
+array-read-leave : tie.Need-array-read-leave Inv-loop μ-loop
+array-read-leave c = search needs
 
-returns-5 : tie.Need-returns-5 Inv-loop μ-loop
-returns-5 c = search older
+array-read-leave-2 : tie.Need-array-read-leave-2 Inv-loop μ-loop
+array-read-leave-2 c = search needs
+
+leave-requires : tie.Need-leave-requires Inv-loop μ-loop
+leave-requires c κs = search (behind-state, needs)
+
+enum-known-exit : tie.Need-enum-known-exit Inv-loop μ-loop
+enum-known-exit c = search needs
+
+enum-told-2 : tie.Need-enum-told-2 Inv-loop μ-loop
+enum-told-2 c = search needs
+
+returns-4 : tie.Need-returns-4 Inv-loop μ-loop
+returns-4 c = search unleft
 
 add-i-2 : tie.Need-add-i-2 Inv-loop μ-loop
 add-i-2 c = search needs
@@ -94,34 +94,13 @@ loop-less-2 : tie.Need-loop-less-2 Inv-loop μ-loop
 loop-less-2 c = search needs
 
 loop-again-2 : tie.Need-loop-again-2 Inv-loop μ-loop
-loop-again-2 c = search left-thin
+loop-again-2 c = search left-to
 
-shared-slice-read-if8 : tie.Need-shared-slice-read-if8 Inv-loop μ-loop
-shared-slice-read-if8 c = search needs
+returns-5 : tie.Need-returns-5 Inv-loop μ-loop
+returns-5 c = search all-closed
 
 returns-6 : tie.Need-returns-6 Inv-loop μ-loop
-returns-6 c = search unfinished
-
-array-read-state : tie.Need-array-read-state Inv-loop μ-loop
-array-read-state c = search needs
-
-cast-state-2 : tie.Need-cast-state-2 Inv-loop μ-loop
-cast-state-2 c = fits-under _ _ 48 (search behind-state) tt
-
-add-i-3 : tie.Need-add-i-3 Inv-loop μ-loop
-add-i-3 c = search needs
-
-loop-less-3 : tie.Need-loop-less-3 Inv-loop μ-loop
-loop-less-3 c = search needs
-
-loop-again-3 : tie.Need-loop-again-3 Inv-loop μ-loop
-loop-again-3 c = search left-whole
-
-returns-7 : tie.Need-returns-7 Inv-loop μ-loop
-returns-7 c = search all-closed
-
-returns-8 : tie.Need-returns-8 Inv-loop μ-loop
-returns-8 c = search left-open
+returns-6 c = search left-open
 
 pub walk-spec : {M : Type 1} → statement M
 walk-spec =
@@ -136,33 +115,26 @@ walk-spec =
     mul-if1
     shared-slice-read-if1
     returns
+    enter-requires
+    enum-known-entry
+    enum-told
     returns-2
-    mul-at
-    cast-at
-    add-at
-    shared-slice-read-after
-    returns-3
     array-write-names
     array-write-behind
     add-depth
-    shared-slice-read-state
-    cast-state
     add-i
     loop-less
     loop-again
-    returns-4
+    returns-3
     sub-depth
-    array-read-if6
-    returns-5
+    array-read-leave
+    array-read-leave-2
+    leave-requires
+    enum-known-exit
+    enum-told-2
+    returns-4
     add-i-2
     loop-less-2
     loop-again-2
-    shared-slice-read-if8
-    returns-6
-    array-read-state
-    cast-state-2
-    add-i-3
-    loop-less-3
-    loop-again-3
-    returns-7
-    returns-8)
+    returns-5
+    returns-6)
