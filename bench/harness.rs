@@ -1,4 +1,8 @@
 // Times the proved library and the crate on the same inputs, by turns, and prints one table.
+#[cfg(not(count))]
+#[allow(dead_code)]
+#[path = "../tools/oracle/src/bundle.rs"]
+mod bundle;
 #[path = "../tools/oracle/src/random.rs"]
 mod random;
 
@@ -19,6 +23,14 @@ extern "C" {
     fn leaf_sanitize(src: *const u8, n: usize, out: *mut u8, room: usize) -> u64;
     fn page_escape(src: *const u8, n: usize, out: *mut u8, room: usize) -> u64;
     fn page_sanitize(src: *const u8, n: usize, out: *mut u8, room: usize) -> u64;
+    fn leaf_read_bundle(
+        bundle: *const u8,
+        n: usize,
+        text: *mut u8,
+        text_room: usize,
+        events: *mut u8,
+        event_room: usize,
+    ) -> u32;
 }
 
 // The same jobs by the crate: a leaf is given text, a user has bytes and tests them first.
@@ -51,7 +63,7 @@ fn rows() -> Vec<Row> {
     let notes = [
         ("plain 16 KB", vec![note(&mut random, 16_384, usize::MAX)]),
         ("prose 16 KB", vec![note(&mut random, 16_384, 60)]),
-        ("code, this file", vec![include_str!("harness.rs").to_string()]),
+        ("own source", vec![include_str!("harness.rs").to_string()]),
         ("dense 16 KB", vec![note(&mut random, 16_384, 8)]),
         ("40 bytes", vec![note(&mut random, 40, 20)]),
     ];
@@ -185,6 +197,27 @@ fn main() {
 fn main() {
     let file = std::env::args().nth(1).expect("usage: harness INSTRUCTIONS");
     print_table(&std::fs::read_to_string(file).expect("the file of instructions can be read"));
+    print_reader();
+}
+
+/// The largest bundle, read; and the same bytes copied and no more.
+#[cfg(not(count))]
+fn print_reader() {
+    let mut random = Random(SEED);
+    let mut noise = |length| (0..length).map(|_| random.below(256) as u8).collect::<Vec<u8>>();
+    let (text, events) = (noise(64_000), noise(64_000));
+    let bundle = bundle::pack(&text, &events, 7);
+    let (mut to_text, mut to_events, mut copy) = (vec![0; 64_000], vec![0; 64_000], vec![0; bundle.len()]);
+    let (from, again) = (bundle.clone(), bundle.clone());
+    let mut read: Side = Box::new(move || {
+        let (t, e) = (to_text.as_mut_ptr(), to_events.as_mut_ptr());
+        let number = unsafe { leaf_read_bundle(from.as_ptr(), from.len(), t, 64_000, e, 64_000) };
+        assert!(number == 0 && to_text[63_999] == text[63_999] && to_events[63_999] == events[63_999]);
+    });
+    let mut copied: Side = Box::new(move || copy.copy_from_slice(black_box(&again)));
+    let (our_time, copy_time, _) = measure(&mut read, &mut copied);
+    let bytes = bundle.len() as f64;
+    println!("bundle of {bytes} bytes: read {:.1} bytes/ns, a plain copy {:.1}", bytes / our_time, bytes / copy_time);
 }
 
 /// `instructions` has a line for each side of each row, in their order, or nothing.

@@ -1,10 +1,10 @@
-// The library for C and Rust: the public calls with plain numbers for answers, and two leaves alone, for measuring.
+// The library for C and Rust: two public calls with plain numbers for answers, and what is measured alone.
 ghost use mathlib.Core.Bool.{true};
 ghost use mathlib.Core.Path.{_≡_};
 ghost use Rattle.lent.specs.Fill.{Filled};
 ghost use Rattle.encode.specs.Encode.{encodeOf};
 ghost use Rattle.sanitize_uri.specs.Url.{sanitizeOf};
-ghost use Rattle.exports.specs.Packed.{packed, Packs};
+ghost use Rattle.exports.specs.Packed.{packed, HasNumber, Packs};
 
 // Escapes a text for HTML, encoding on.
 #[no_mangle]
@@ -37,6 +37,15 @@ pub extern "C" fn leaf_sanitize(url: &[u8], out: &mut [u8]) -> usize
     ensures { λ r. ⌜ Filled (now (out .entry)) 0 (sanitizeOf (now (url .entry))) (now (out .exit)) r ⌝ }
 {
     sanitize_uri::sanitize(url, out, 0)
+}
+
+// Reads a bundle; the answer is 01's number alone.
+#[no_mangle]
+pub extern "C" fn leaf_read_bundle(bundle: &[u8], text: &mut [u8], events: &mut [u8]) -> u32
+    ensures { λ r. ⌜ HasNumber (now (bundle .entry)) (now (text .entry)) (now (events .entry)) (now (text .exit)) (now (events .exit)) r ⌝ }
+{
+    let answer = page::read_bundle(bundle, text, events);
+    bundle::number(answer)
 }
 
 // The length, or 2^63 and the refusal's number.
