@@ -44,7 +44,7 @@ fn serve_one(input: &mut [u8], answer: &mut [u8], work: &mut [u8]) -> bool {
         return false;
     }
     let request = read_request(&header);
-    if (request.op < 1) | ((5 < request.op) & (request.op != 8)) {
+    if (request.op < 1) | (8 < request.op) | (request.op == 7) {
         return false;
     }
     answer_request(request, input, answer, work)
@@ -101,6 +101,9 @@ fn answer_request(r: Request, input: &mut [u8], answer: &mut [u8], work: &mut [u
     if work.len() < second {
         return false;
     }
+    if r.op == 6 {
+        return exchange_check(r, &mut input[0..text + events], &mut answer[0..24 + room]);
+    }
     if r.op == 8 {
         return exchange_bundle(
             r,
@@ -127,6 +130,23 @@ fn exchange(r: Request, input: &mut [u8], answer: &mut [u8]) -> bool {
     let written = call(r, &input[0..text], &mut answer[24..]);
     put_header(&mut answer[0..24], written, r.room);
     io::write_all(1, answer)
+}
+
+// The same for the checker, which is lent no buffer.
+fn exchange_check(r: Request, input: &mut [u8], answer: &mut [u8]) -> bool {
+    if io::read_full(0, input) != input.len() {
+        return false;
+    }
+    let text = r.text;
+    if input.len() < text {
+        return false;
+    }
+    if answer.len() < 24 {
+        return false;
+    }
+    let checked = page::check(&input[0..text], &input[text..]);
+    put_check_header(&mut answer[0..24], checked);
+    io::write_all(1, &answer[0..24])
 }
 
 // The same for the reader, which is lent two buffers: the second one's bytes follow the first's.
@@ -173,6 +193,12 @@ fn put_header(head: &mut [u8], w: page::Written, room: usize) {
     put_u32(head, 0, page::number(w) as usize);
     put_u32(head, 4, page::value(w));
     put_u32(head, 16, room);
+}
+
+fn put_check_header(head: &mut [u8], c: checker::Checked) {
+    lent::clear(head, 0);
+    put_u32(head, 0, checker::number(c) as usize);
+    put_u32(head, 4, checker::place(c));
 }
 
 fn put_reader_header(head: &mut [u8], a: bundle::Answer, room: usize, work: usize) {

@@ -6,6 +6,7 @@ ghost use Rattle.sanitize_uri.specs.Url.{sanitizeOf};
 ghost use Rattle.sanitize_uri.specs.Protocols.{linkSchemes, imageSchemes, sanitizeWithProtocolsOf};
 ghost use Rattle.normalize_identifier.specs.Identity.{identityOf};
 ghost use Rattle.bundle.specs.Read.{HasRead};
+ghost use Rattle.checker.specs.Checked.{checkOf};
 ghost use Rattle.page.specs.Written.{numberOf, valueOf, resultOf, takenOf, Ended, Refuses, Wrote};
 
 // The answer of a call that writes a text: its length, or why nothing was written.
@@ -64,6 +65,13 @@ pub fn identity(label: &[u8], out: &mut [u8]) -> Written
     ensures { λ r. ⌜ Wrote (now (label .entry)) (identityOf (now (label .entry))) (now (out .entry)) (now (out .exit)) r ⌝ }
 {
     write(Job::Identity, label, out)
+}
+
+// Whether a text and its events meet 01's rules.
+pub fn check(text: &[u8], events: &[u8]) -> checker::Checked
+    ensures { λ r. ⌜ r ≡ checkOf (now (text .entry)) (now (events .entry)) ⌝ }
+{
+    checker::check(text, events)
 }
 
 // Reads the text and the events of a note bundle.

@@ -1,0 +1,84 @@
+-- The order of the passes, as the code goes through it. Assumes nothing.
+use mathlib.Core.Path.{_≡_, _∙_}
+use mathlib.Core.Bool.{Bool, true, false, not, _&&_}
+use mathlib.Core.List.{List}
+use Prim.Native.Nat.{ℕ}
+use borrow.Author.Tests.{not-true, not-false}
+use Rattle.utf8.specs.Utf8.{isUtf8}
+use Rattle.nesting.specs.declared.Nesting.{Nesting}
+use Rattle.nesting.specs.declared.Nesting.the-variants as N
+use Rattle.nesting.specs.Tag.{tagsOf}
+use Rattle.nesting.specs.Pass.{nestOf}
+use Rattle.check_fields.specs.declared.Fields.{Fields}
+use Rattle.check_fields.specs.declared.Fields.the-variants as F
+use Rattle.check_fields.specs.Fields.{fieldsOf}
+use Rattle.check_slices.specs.declared.Slices.{Slices}
+use Rattle.check_slices.specs.declared.Slices.the-variants as S
+use Rattle.check_slices.specs.Slices.{slicesOf}
+use Rattle.check_slices.specs.Counts.{countsOf}
+use Rattle.check_labels.specs.declared.Labels.{Labels}
+use Rattle.check_labels.specs.declared.Labels.the-variants as L
+use Rattle.check_labels.specs.Labels.{undefinedOf}
+use Rattle.checker.specs.declared.Checked.{Checked}
+use Rattle.checker.specs.declared.Checked.the-variants.{Yes, WrongLength, NotUtf8, Field, Nested, Slice, Count, Label}
+use Rattle.checker.specs.Checked.{event, sizesHold, checkOf, fromFields, fromNesting, fromSlices, fromCounts, fromLabels}
+
+module _ (text events : List ℕ) where
+  module _ (x : Bool) (p : x ≡ sizesHold text events) where
+    pub wrong-length : not x ≡ true → WrongLength ≡ checkOf text events
+    unfolding checkOf
+    wrong-length h = rw (← p, not-true x h)
+
+    module _ (y : Bool) (q : y ≡ isUtf8 text) (h : not x ≡ false) where
+      pub not-utf8 : not y ≡ true → NotUtf8 ≡ checkOf text events
+      unfolding checkOf
+      not-utf8 k = rw (← p, not-false x h, ← q, not-true y k)
+
+      pub from-here : {r : Checked} → not y ≡ false → r ≡ fromFields text events → r ≡ checkOf text events
+      unfolding checkOf
+      from-here k e = e ∙ rw (← p, not-false x h, ← q, not-false y k)
+
+  module _ (x : Fields) (p : x ≡ fieldsOf text events) where
+    pub fields-pass : {r : Checked} → x ≡ F.Yes → r ≡ fromNesting text events → r ≡ fromFields text events
+    unfolding fromFields
+    fields-pass q e = e ∙ rw (← p, q)
+
+    pub fields-fail : (i : ℕ) → x ≡ F.At i → Field (event i) ≡ fromFields text events
+    unfolding fromFields
+    fields-fail i q = rw (← p, q)
+
+  module _ (x : Nesting) (p : x ≡ nestOf (tagsOf events)) where
+    pub nesting-pass : {r : Checked} → x ≡ N.Yes → r ≡ fromSlices text events → r ≡ fromNesting text events
+    unfolding fromNesting
+    nesting-pass q e = e ∙ rw (← p, q)
+
+    pub nesting-fail : (i : ℕ) → x ≡ N.At i → Nested (event i) ≡ fromNesting text events
+    unfolding fromNesting
+    nesting-fail i q = rw (← p, q)
+
+  module _ (x : Slices) (p : x ≡ slicesOf text events) where
+    pub slices-pass : {r : Checked} → x ≡ S.Yes → r ≡ fromCounts text events → r ≡ fromSlices text events
+    unfolding fromSlices
+    slices-pass q e = e ∙ rw (← p, q)
+
+    pub slices-fail : (i : ℕ) → x ≡ S.At i → Slice (event i) ≡ fromSlices text events
+    unfolding fromSlices
+    slices-fail i q = rw (← p, q)
+
+  module _ (x : Slices) (p : x ≡ countsOf events) where
+    pub counts-pass : {r : Checked} → x ≡ S.Yes → r ≡ fromLabels text events → r ≡ fromCounts text events
+    unfolding fromCounts
+    counts-pass q e = e ∙ rw (← p, q)
+
+    pub counts-fail : (i : ℕ) → x ≡ S.At i → Count (event i) ≡ fromCounts text events
+    unfolding fromCounts
+    counts-fail i q = rw (← p, q)
+
+  module _ (x : Labels) (p : x ≡ undefinedOf text events) where
+    pub labels-pass : x ≡ L.Yes → Yes ≡ fromLabels text events
+    unfolding fromLabels
+    labels-pass q = rw (← p, q)
+
+    pub labels-fail : (i : ℕ) → x ≡ L.At i → Label (event i) ≡ fromLabels text events
+    unfolding fromLabels
+    labels-fail i q = rw (← p, q)
