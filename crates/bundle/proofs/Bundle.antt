@@ -12,17 +12,18 @@ use Rattle.lent.specs.Bytes.{if_then_else_}
 use Rattle.lent.specs.Fill.{zeros}
 use Rattle.bundle.specs.declared.Answer.{Answer}
 use Rattle.bundle.specs.declared.Answer.the-variants.{Bundle, Refused}
-use Rattle.bundle.specs.declared.Refusal.{Refusal}
-use Rattle.bundle.specs.declared.Refusal.the-variants.{Short, Broken}
-use Rattle.bundle.specs.declared.Verdict.{Verdict}
-use Rattle.bundle.specs.declared.Verdict.the-variants.{Good, Bad}
-use Rattle.bundle.specs.Block.{editionIn, _before_, demand, judgeBlock}
-use Rattle.bundle.specs.Bundle.{judgeRun, heldIn, textLength, eventCount, eventLength, textBlocks, eventBlocks, textPart, eventPart, textIn, eventsIn}
+use Rattle.block.specs.declared.Refusal.{Refusal}
+use Rattle.block.specs.declared.Refusal.the-variants.{Short, Broken}
+use Rattle.block.specs.declared.Verdict.{Verdict}
+use Rattle.block.specs.declared.Verdict.the-variants.{Good, Bad}
+use Rattle.block.specs.Block.{editionIn, _before_, demand, judgeBlock}
+use Rattle.block_run.specs.Run.{judgeRun, heldIn}
+use Rattle.bundle.specs.Bundle.{textLength, eventCount, eventLength, textBlocks, eventBlocks, textPart, eventPart, textIn, eventsIn}
 use Rattle.bundle.specs.Bundle.{judgeLength, judgeHeader, judgeCount, judgeText, judgeEvents, judgeBundle, refused, meant, readOf}
 use Rattle.bundle.specs.Read.{callOf, HasRead, judgeCall}
 use Rattle.bundle.specs.Sizes.{mostText, mostEvents, leastRoom, textRoom, eventRoom, headerUsed, headerKind, textKind, eventKind}
-use Rattle.bundle.proofs.Block.{first-bad, then-next, demanded, demanded-both, both-good}
-use Rattle.bundle.proofs.Run.{length-held}
+use Rattle.block.proofs.Block.{first-bad, then-next, demanded, demanded-both, both-good}
+use Rattle.block_run.proofs.Run.{length-held}
 
 -- a slice to the end
 rest : (l : List ℕ) (at : ℕ) → take (length l - at) (drop at l) ≡ drop at l

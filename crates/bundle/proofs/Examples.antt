@@ -4,9 +4,10 @@ use mathlib.Core.List.{List, [], _∷_, _++_}
 use Prim.Native.Nat.{ℕ}
 use lib.ListN.{set, take}
 use Rattle.lent.specs.Fill.{zeros}
-use Rattle.bundle.specs.declared.Refusal.the-variants.{Broken, BadCheck}
-use Rattle.bundle.specs.Block.{little, number, weighed, checkOf, frontOf, blockOf, judgeCheck, judgeEdition, judgeOrder, judgeBlock}
-use Rattle.bundle.specs.Bundle.{runOf, bundleOf, judgeRun, heldIn, judgeLength, judgeHeader, judgeCount, judgeText, judgeEvents, judgeBundle, textIn, eventsIn, says, refused, readOf}
+use Rattle.block.specs.declared.Refusal.the-variants.{Broken, BadCheck}
+use Rattle.block.specs.Block.{little, number, weighed, checkOf, frontOf, blockOf, judgeCheck, judgeEdition, judgeOrder, judgeBlock}
+use Rattle.block_run.specs.Run.{runOf, judgeRun, heldIn}
+use Rattle.bundle.specs.Bundle.{bundleOf, judgeLength, judgeHeader, judgeCount, judgeText, judgeEvents, judgeBundle, textIn, eventsIn, says, refused, readOf}
 
 -- edition 7 of an empty note: one block
 abbrev empty : List ℕ

@@ -8,16 +8,17 @@ use borrow.Author.Tests.{lt-ltb, le-leb, eq-eqb}
 use lib.ListN.{length, take, drop, length-append, length-take, length-drop}
 use lib.Seq.{take-all, take-at, drop-at, take-take, take-add, drop-drop}
 use Rattle.lent.specs.Bytes.{all}
-use Rattle.bundle.specs.declared.Verdict.{Verdict}
-use Rattle.bundle.specs.declared.Verdict.the-variants.{Good, Bad}
-use Rattle.bundle.specs.Block.{little, frontOf, blockOf, editionIn, judgeBlock}
-use Rattle.bundle.specs.Bundle.{blocksFor, headerOf, runOf, bundleOf, textLength, eventCount, eventLength, textBlocks, eventBlocks, textPart, eventPart, judgeLength, judgeHeader, judgeCount, judgeText, judgeEvents, judgeBundle, textIn, eventsIn, says, meant, readOf}
-use Rattle.bundle.specs.Sizes.{mostText, mostEvents, recordSize, textRoom, eventRoom, headerUsed, headerKind, textKind, eventKind, isByte, Within}
-use Rattle.bundle.proofs.Block.{drop-take}
+use Rattle.block.specs.declared.Verdict.{Verdict}
+use Rattle.block.specs.declared.Verdict.the-variants.{Good, Bad}
+use Rattle.block.specs.Block.{isByte, little, frontOf, blockOf, editionIn, judgeBlock}
+use Rattle.block_run.specs.Run.{runOf}
+use Rattle.bundle.specs.Bundle.{blocksFor, headerOf, bundleOf, textLength, eventCount, eventLength, textBlocks, eventBlocks, textPart, eventPart, judgeLength, judgeHeader, judgeCount, judgeText, judgeEvents, judgeBundle, textIn, eventsIn, says, meant, readOf}
+use Rattle.bundle.specs.Sizes.{mostText, mostEvents, recordSize, textRoom, eventRoom, headerUsed, headerKind, textKind, eventKind, Within}
+use Rattle.block.proofs.Block.{drop-take}
 use Rattle.bundle.proofs.Bundle.{Sound, sound, length-text, length-events}
-use Rattle.bundle.proofs.Words.{all-append, all-take, all-drop, bytes-little, number-little, number-small}
-use Rattle.bundle.proofs.BlockInverse.{length-block, written-good, word, good-written}
-use Rattle.bundle.proofs.RunInverse.{length-run, run-good, run-held, good-run, bytes-held}
+use Rattle.block.proofs.Words.{all-append, all-take, all-drop, bytes-little, number-little, number-small}
+use Rattle.block.proofs.Inverse.{length-block, written-good, word, good-written}
+use Rattle.block_run.proofs.Inverse.{length-run, run-good, run-held, good-run, bytes-held}
 
 -- a sound bundle is judged good
 good : (l : List ℕ) → Sound l → judgeBundle l ≡ Good

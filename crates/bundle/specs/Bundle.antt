@@ -1,14 +1,15 @@
 -- 01's bundle: a header block, then text blocks, then event blocks, none more than needed; written, judged and read. Assumes nothing.
 use mathlib.Core.Bool.{_&&_}
-use mathlib.Core.List.{List, [], _++_}
-use Prim.Native.Nat.{ℕ, zero, suc, _+_, _-_, _*_, _/_, _%_, min}
+use mathlib.Core.List.{List, _++_}
+use Prim.Native.Nat.{ℕ, _+_, _-_, _*_, _/_, _%_}
 use lib.Dec.{eqb, leb, ltb}
 use lib.ListN.{length, take, drop}
-use Rattle.bundle.specs.declared.Refusal.{Refusal}
-use Rattle.bundle.specs.declared.Refusal.the-variants.{Broken}
-use Rattle.bundle.specs.declared.Verdict.{Verdict}
-use Rattle.bundle.specs.declared.Verdict.the-variants.{Good, Bad}
-use Rattle.bundle.specs.Block.{little, blockOf, field, editionIn, _before_, demand, judgeBlock}
+use Rattle.block.specs.declared.Refusal.{Refusal}
+use Rattle.block.specs.declared.Refusal.the-variants.{Broken}
+use Rattle.block.specs.declared.Verdict.{Verdict}
+use Rattle.block.specs.declared.Verdict.the-variants.{Good, Bad}
+use Rattle.block.specs.Block.{little, blockOf, field, editionIn, _before_, demand, judgeBlock}
+use Rattle.block_run.specs.Run.{runOf, judgeRun, heldIn}
 use Rattle.bundle.specs.Sizes.{mostText, mostEvents, recordSize, textRoom, eventRoom, headerUsed, headerKind, textKind, eventKind}
 
 -- as many blocks as so many bytes need
@@ -16,11 +17,6 @@ abbrev pub blocksFor : (room bytes : ℕ) → ℕ
 blocksFor room bytes = (bytes + (room - 1)) / room
 
 -- ---- written
-
--- a run of so many blocks of one kind, numbered from block on, each with up to room bytes of what is given
-unfoldable pub runOf : (edition kind room block : ℕ) → ℕ → List ℕ → List ℕ
-runOf edition kind room block zero given = []
-runOf edition kind room block (suc n) given = blockOf edition block kind (take room given) ++ runOf edition kind room (block + 1) n (drop room given)
 
 -- the header's payload: text length u32, event count u32
 abbrev pub headerOf : List ℕ → List ℕ → List ℕ
@@ -34,18 +30,6 @@ bundleOf text events edition =
     ++ runOf edition eventKind eventRoom (1 + blocksFor textRoom (length text)) (blocksFor eventRoom (length events)) events
 
 -- ---- read
-
--- the verdict on a run of so many blocks, in which so many bytes are used
-unfoldable pub judgeRun : (edition kind room block : ℕ) → ℕ → (used : ℕ) → List ℕ → Verdict
-judgeRun edition kind room block zero used blocks = Good
-judgeRun edition kind room block (suc n) used blocks =
-    judgeBlock edition block kind (min room used) (take 512 blocks)
-    before judgeRun edition kind room (block + 1) n (used - room) (drop 512 blocks)
-
--- what the run holds: of each block the payload, from place 8 on, as far as it is used
-unfoldable pub heldIn : (room : ℕ) → ℕ → (used : ℕ) → List ℕ → List ℕ
-heldIn room zero used blocks = []
-heldIn room (suc n) used blocks = take (min room used) (drop 8 blocks) ++ heldIn room n (used - room) (drop 512 blocks)
 
 module _ (bundle : List ℕ) where
   -- what the header says beside the edition

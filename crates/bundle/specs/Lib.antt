@@ -1,4 +1,3 @@
 pub mod Sizes
-pub mod Block
 pub mod Bundle
 pub mod Read

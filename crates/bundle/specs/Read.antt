@@ -7,12 +7,12 @@ use lib.Dec.{leb}
 use lib.ListN.{length}
 use Rattle.lent.specs.Bytes.{if_then_else_}
 use Rattle.lent.specs.Fill.{zeros}
-use Rattle.bundle.specs.declared.Refusal.{Refusal}
-use Rattle.bundle.specs.declared.Refusal.the-variants.{Short, Broken, BadCheck, OtherEdition}
+use Rattle.block.specs.declared.Refusal.{Refusal}
+use Rattle.block.specs.declared.Refusal.the-variants.{Short, Broken, BadCheck, OtherEdition}
 use Rattle.bundle.specs.declared.Answer.{Answer}
 use Rattle.bundle.specs.declared.Answer.the-variants.{Bundle, Refused}
-use Rattle.bundle.specs.declared.Verdict.{Verdict}
-use Rattle.bundle.specs.Block.{_before_, demand}
+use Rattle.block.specs.declared.Verdict.{Verdict}
+use Rattle.block.specs.Block.{_before_, demand}
 use Rattle.bundle.specs.Bundle.{judgeBundle, Meaning, says, refused, readOf}
 use Rattle.bundle.specs.Sizes.{leastRoom}
 

@@ -1,11 +1,11 @@
 -- 01's sizes, each in one place. Assumes nothing.
 use mathlib.Core.Path.{_≡_}
-use mathlib.Core.Bool.{Bool, true}
+use mathlib.Core.Bool.{true}
 use mathlib.Core.List.{List}
 use Prim.Native.Nat.{ℕ, _*_, _%_, _^_, _≤_, _<_}
-use lib.Dec.{ltb}
 use lib.ListN.{length}
 use Rattle.lent.specs.Bytes.{all}
+use Rattle.block.specs.Block.{isByte}
 
 -- text in bytes, events in records
 abbrev pub mostText : ℕ
@@ -46,9 +46,6 @@ abbrev pub eventKind : ℕ
 eventKind = 3
 
 -- ---- what a bundle can hold
-
-abbrev pub isByte : ℕ → Bool
-isByte b = ltb b 256
 
 pub record Within (text events : List ℕ) (edition : ℕ) : Type 0 where
   pub text-bytes : all isByte text ≡ true

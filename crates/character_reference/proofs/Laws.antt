@@ -16,7 +16,8 @@ use Rattle.character_reference.specs.declared.Marker.the-variants.{Named
 use Rattle.character_reference.specs.declared.Value.{Value}
 use Rattle.character_reference.specs.declared.Value.the-variants.{Code, Broken}
 use Rattle.utf8.specs.Utf8.{charOf, tail, replacement}
-use Rattle.character_reference.specs.Reference.{isReplaced, codeOf, areDigits, numberOf, numeralOf, names, lookup, namedOf, valueOf, standsFor, referenceOf, isSome, orNothing, writtenOf}
+use Rattle.character_reference.specs.Reference.{isReplaced, codeOf, areDigits, numberOf, numeralOf, names, lookup, namedOf, valueOf, standsFor, referenceOf, isSome, orNothing}
+use Rattle.put_char.specs.Written.{writtenOf}
 use Rattle.character_reference.proofs.Numbers.{inside}
 
 -- ---- what a value's code can be
@@ -177,26 +178,3 @@ character c = go (isReplaced c)
     go : (t : Bool) → charOf (if t then 0xFFFD else c) ≡ (if t then replacement else charOf c)
     go true = refl
     go false = refl
-
--- ---- characters, by their length
-
-module _ (d f : List ℕ) (at r c : ℕ) where
-  pub one-byte : c < 0x80 → Filled d at (c ∷ []) f r → Filled d at (writtenOf c) f r
-  unfolding writtenOf charOf
-  one-byte h p = rw (lt-ltb c 0x110000 (omega arith), lt-ltb c 0x80 h) p
-
-  pub two-bytes : (x : ℕ) → 0x80 ≤ c → c < 0x800 → x ≡ tail c → Filled d at ((0xC0 + c / 64) ∷ x ∷ []) f r → Filled d at (writtenOf c) f r
-  unfolding writtenOf charOf
-  two-bytes x h k e p = rw (lt-ltb c 0x110000 (omega arith), le-ltb c 0x80 h, lt-ltb c 0x800 k, ← e) p
-
-  pub three-bytes : (x y : ℕ) → 0x800 ≤ c → c < 0x10000 → y ≡ tail (c / 64) → x ≡ tail c → Filled d at ((0xE0 + c / 4096) ∷ y ∷ x ∷ []) f r → Filled d at (writtenOf c) f r
-  unfolding writtenOf charOf
-  three-bytes x y h k e′ e p = rw (lt-ltb c 0x110000 (omega arith), le-ltb c 0x80 (omega arith), le-ltb c 0x800 h, lt-ltb c 0x10000 k, ← e′, ← e) p
-
-  pub four-bytes : (x y z : ℕ) → 0x10000 ≤ c → c < 0x110000 → z ≡ tail (c / 4096) → y ≡ tail (c / 64) → x ≡ tail c → Filled d at ((0xF0 + c / 262144) ∷ z ∷ y ∷ x ∷ []) f r → Filled d at (writtenOf c) f r
-  unfolding writtenOf charOf
-  four-bytes x y z h k e″ e′ e p = rw (lt-ltb c 0x110000 k, le-ltb c 0x80 (omega arith), le-ltb c 0x800 (omega arith), le-ltb c 0x10000 h, ← e″, ← e′, ← e) p
-
-  pub no-character : 0x110000 ≤ c → Filled d at (0xEF ∷ 0xBF ∷ 0xBD ∷ []) f r → Filled d at (writtenOf c) f r
-  unfolding writtenOf
-  no-character h p = rw (le-ltb c 0x110000 h) p

@@ -10,7 +10,8 @@ use Rattle.character_reference.specs.declared.Marker.{Marker}
 use Rattle.character_reference.specs.declared.Marker.the-variants.{Named, Decimal, Hexadecimal}
 use Rattle.character_reference.specs.declared.Value.{Value}
 use Rattle.character_reference.specs.declared.Value.the-variants.{Code, Broken}
-use Rattle.utf8.specs.Utf8.{charOf, replacement}
+use Rattle.utf8.specs.Utf8.{charOf}
+unfoldable pub use Rattle.put_char.specs.Written.{writtenOf}
 
 -- ---- numbers
 
@@ -83,7 +84,3 @@ isSome (some s) = true
 abbrev pub orNothing : Option (List ℕ) → List ℕ
 orNothing none = []
 orNothing (some s) = s
-
--- what is written for any number as a code: past 10FFFF there is no character, and U+FFFD stands in
-unfoldable pub writtenOf : ℕ → List ℕ
-writtenOf c = if ltb c 0x110000 then charOf c else replacement

@@ -1,21 +1,9 @@
--- A text encoded for HTML (`encode.rs`). Assumes nothing.
-use mathlib.Core.Bool.{Bool, not, _&&_, _||_}
-use mathlib.Core.List.{List, [], _∷_}
+-- A text encoded for HTML (`encode.rs`), byte by byte. Assumes nothing.
+use mathlib.Core.Bool.{Bool}
+use mathlib.Core.List.{List}
 use Prim.Native.Nat.{ℕ}
-use lib.Dec.{eqb}
-use Rattle.lent.specs.Bytes.{if_then_else_, bytes, each}
-use Rattle.utf8.specs.Utf8.{replacement}
-
--- NUL becomes U+FFFD always; with encoding on, & < > " become &amp; &lt; &gt; &quot;
-unfoldable pub encodeByte : Bool → ℕ → List ℕ
-encodeByte on b =
-    if eqb b 0 then replacement
-    else if not on then b ∷ []
-    else if eqb b 38 then bytes "&amp;"
-    else if eqb b 60 then bytes "&lt;"
-    else if eqb b 62 then bytes "&gt;"
-    else if eqb b 34 then bytes "&quot;"
-    else b ∷ []
+use Rattle.lent.specs.Bytes.{each}
+unfoldable pub use Rattle.encode_byte.specs.Byte.{encodeByte}
 
 unfoldable pub encodeOf : Bool → List ℕ → List ℕ
 encodeOf on s = each (encodeByte on) s

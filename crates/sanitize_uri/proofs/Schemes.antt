@@ -10,6 +10,8 @@ use lib.ListN.{length, take, drop, getD, drop-of-length-le}
 use Rattle.lent.specs.Bytes.{if_then_else_, bytes, oneOf, same, mapped, lower, listed}
 use Rattle.lent.specs.Fill.{Filled}
 use Rattle.lent.proofs.Laws.{next, none}
+use Rattle.encode.specs.Encode.{encodeOf}
+use Rattle.normalize_uri.specs.Url.{normalizeOf}
 use Rattle.sanitize_uri.specs.declared.Colon.{Colon}
 use Rattle.sanitize_uri.specs.declared.Colon.the-variants.{At, Missing}
 use Rattle.sanitize_uri.specs.declared.Protocols.{Protocols}
@@ -116,3 +118,7 @@ module _ (schemes : List (List ℕ)) (l : List ℕ) (x : Bool) (p : x ≡ isAllo
   pub is-allowed : not x ≡ false → sanitizeWithProtocolsOf schemes l ≡ sanitizeOf l
   unfolding sanitizeWithProtocolsOf
   is-allowed q = rw (← p, not-false x q)
+
+pub sanitized : (l : List ℕ) → sanitizeOf l ≡ encodeOf true (normalizeOf l)
+unfolding sanitizeOf
+sanitized l = refl

@@ -1,8 +1,11 @@
 -- 01's "Proved table", its entries on URLs, as one statement. Assumes nothing.
 use mathlib.Core.Path.{_≡_, refl}
 use Rattle.lent.specs.Bytes.{bytes}
-use Rattle.encode.specs.Encode.{encodeByte, encodeOf}
-use Rattle.sanitize_uri.specs.Url.{twoAlnum, stays, hexUpper, percent, urlByte, normalizeOf, sanitizeOf}
+use Rattle.encode_byte.specs.Byte.{encodeByte}
+use Rattle.encode.specs.Encode.{encodeOf}
+use Rattle.url_byte.specs.Byte.{twoAlnum, stays, hexUpper, percent, urlByte}
+use Rattle.normalize_uri.specs.Url.{normalizeOf}
+use Rattle.sanitize_uri.specs.Url.{sanitizeOf}
 use Rattle.sanitize_uri.specs.Protocols.{colonFrom, colonOf, isAllowed, linkSchemes, sanitizeWithProtocolsOf}
 
 pub table :

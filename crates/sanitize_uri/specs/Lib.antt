@@ -1,3 +1,2 @@
-pub mod Private
 pub mod Protocols
 pub mod Url

@@ -1,13 +1,8 @@
-// URLs made safe, as `sanitize_uri.rs`: percent-encoded, then encoded for HTML, in one walk over the bytes.
-ghost use Prim.Native.Nat.{_+_, _-_, _≤_, _<_};
-ghost use mathlib.Core.Bool.{Bool, true, false};
+// URLs made safe, as `sanitize_uri.rs`: percent-encoded, then encoded for HTML, and only with a scheme that is listed.
 ghost use mathlib.Core.Path.{_≡_};
-ghost use lib.ListN.{length, take, drop};
-ghost use Rattle.lent.specs.Bytes.{any, isAlnum, same, mapped, lower, listed};
+ghost use Rattle.lent.specs.Bytes.{same, mapped, lower, listed};
 ghost use Rattle.lent.specs.Fill.{Filled};
-ghost use Rattle.encode.specs.Encode.{encodeByte, encodeOf};
-ghost use Rattle.sanitize_uri.specs.Url.{isKept, twoAlnum, stays, hexUpper, percent, normalizeOf, sanitizeOf};
-ghost use Rattle.sanitize_uri.specs.Private.{byteOf, isUnsafe, keptMask, partOf};
+ghost use Rattle.sanitize_uri.specs.Url.{sanitizeOf};
 ghost use Rattle.sanitize_uri.specs.Protocols.{colonOf, schemesOf, isAllowed, sanitizeWithProtocolsOf};
 
 // Which schemes a URL may have.
@@ -28,7 +23,7 @@ pub enum Colon {
 pub fn sanitize(value: &[u8], out: &mut [u8], at: usize) -> usize
     ensures { λ r. ⌜ Filled (now (out .entry)) at (sanitizeOf (now (value .entry))) (now (out .exit)) r ⌝ }
 {
-    put_url(value, true, out, at)
+    normalize_uri::put_url(value, true, out, at)
 }
 
 // The same, or nothing where the URL has a scheme that is not listed.
@@ -44,178 +39,6 @@ pub fn sanitize_with_protocols(
         return at;
     }
     sanitize(value, out, at)
-}
-
-// Appends the URL, percent-encoded alone.
-pub fn normalize(value: &[u8], out: &mut [u8], at: usize) -> usize
-    ensures { λ r. ⌜ Filled (now (out .entry)) at (normalizeOf (now (value .entry))) (now (out .exit)) r ⌝ }
-{
-    put_url(value, false, out, at)
-}
-
-fn put_url(value: &[u8], encode_html: bool, out: &mut [u8], at: usize) -> usize
-    ensures { λ r. ⌜ Filled (now (out .entry)) at (encodeOf «encode_html» (normalizeOf (now (value .entry)))) (now (out .exit)) r ⌝ }
-{
-    let mut r = at;
-    let mut i = 0;
-    while 16 <= value.len() - i {
-        r = put_block(value, i, encode_html, out, r);
-        i += 16;
-    }
-    put_part(value, i, value.len(), encode_html, out, r)
-}
-
-// Sixteen bytes: copied at once where nothing is to be done to any of them.
-fn put_block(value: &[u8], i: usize, encode_html: bool, out: &mut [u8], at: usize) -> usize
-    requires { ⌜ i + 16 ≤ length (now value) ⌝ }
-    ensures { λ r. ⌜ Filled (now (out .entry)) at (encodeOf «encode_html» (partOf 16 (drop i (now (value .entry))))) (now (out .exit)) r ⌝ }
-{
-    if has_unsafe(value, i) {
-        return put_part(value, i, i + 16, encode_html, out, at);
-    }
-    lent::put_all(out, at, &value[i..i + 16])
-}
-
-// The bytes from `from` to `to`, one by one: a `%` looks at what follows it in the whole URL.
-fn put_part(
-    value: &[u8],
-    from: usize,
-    to: usize,
-    encode_html: bool,
-    out: &mut [u8],
-    at: usize,
-) -> usize
-    requires { ⌜ (from ≤ to) × (to ≤ length (now value)) ⌝ }
-    ensures { λ r. ⌜ Filled (now (out .entry)) at (encodeOf «encode_html» (partOf (to - from) (drop from (now (value .entry))))) (now (out .exit)) r ⌝ }
-{
-    let mut r = at;
-    let mut i = from;
-    while i < to {
-        r = put_url_byte(value, i, encode_html, out, r);
-        i += 1;
-    }
-    r
-}
-
-// Whether some byte of a block does not stay, encoded for HTML too. It looks at each, so that sixteen can be looked at together.
-fn has_unsafe(value: &[u8], i: usize) -> bool
-    requires { ⌜ i + 16 ≤ length (now value) ⌝ }
-    ensures { λ r. ⌜ r ≡ any isUnsafe (take 16 (drop i (now (value .entry)))) ⌝ }
-{
-    let mut found = false;
-    let mut k = 0usize;
-    while k < 16 {
-        found = found | is_unsafe(value[i + k]);
-        k += 1;
-    }
-    found
-}
-
-fn is_unsafe(b: u8) -> bool
-    ensures { λ r. ⌜ r ≡ isUnsafe b ⌝ }
-{
-    !((b == 33)
-        | (b == 35)
-        | (b == 36)
-        | ((38 <= b) & (b <= 59))
-        | (b == 61)
-        | ((63 <= b) & (b <= 90))
-        | (b == 95)
-        | ((97 <= b) & (b <= 122))
-        | (b == 126))
-        | (b == 38)
-}
-
-// The byte at `i`. Of those that stay HTML encodes only `&`.
-fn put_url_byte(value: &[u8], i: usize, encode_html: bool, out: &mut [u8], at: usize) -> usize
-    requires { ⌜ i < length (now value) ⌝ }
-    ensures { λ r. ⌜ Filled (now (out .entry)) at (encodeOf «encode_html» (byteOf (drop i (now (value .entry))))) (now (out .exit)) r ⌝ }
-{
-    let b = value[i];
-    if !is_staying(value, i) {
-        return put_percent(b, out, at);
-    }
-    if b == b'&' {
-        return put_ampersand(encode_html, out, at);
-    }
-    lent::put(out, at, b)
-}
-
-fn put_ampersand(encode_html: bool, out: &mut [u8], at: usize) -> usize
-    ensures { λ r. ⌜ Filled (now (out .entry)) at (encodeByte «encode_html» 38) (now (out .exit)) r ⌝ }
-{
-    if encode_html {
-        return encode::put_reference(b'&', out, at);
-    }
-    lent::put(out, at, b'&')
-}
-
-// Appends `%XX`.
-fn put_percent(b: u8, out: &mut [u8], at: usize) -> usize
-    ensures { λ r. ⌜ Filled (now (out .entry)) at (percent b) (now (out .exit)) r ⌝ }
-{
-    let high = lent::put(out, at, b'%');
-    let low = lent::put(out, high, hex(b / 16));
-    lent::put(out, low, hex(b % 16))
-}
-
-// The upper-case digit of a number below 16.
-fn hex(n: u8) -> u8
-    requires { ⌜ n < 16 ⌝ }
-    ensures { λ r. ⌜ r ≡ hexUpper n ⌝ }
-{
-    if n < 10 {
-        return 48 + n;
-    }
-    55 + n
-}
-
-// Whether the byte at `i` stays as it is.
-fn is_staying(value: &[u8], i: usize) -> bool
-    requires { ⌜ i < length (now value) ⌝ }
-    ensures { λ r. ⌜ r ≡ stays (drop i (now (value .entry))) ⌝ }
-{
-    let b = value[i];
-    if b == b'%' {
-        return has_two_alnum(value, i + 1);
-    }
-    is_kept(b)
-}
-
-// By a mask for the bytes below 64 and one for those up to 127.
-fn is_kept(b: u8) -> bool
-    ensures { λ r. ⌜ r ≡ isKept b ⌝ }
-{
-    lent::has_bit(kept_mask(b), b % 64)
-}
-
-fn kept_mask(b: u8) -> u64
-    ensures { λ r. ⌜ r ≡ keptMask b ⌝ }
-{
-    if b < 64 {
-        return 0xafffffda00000000;
-    }
-    if b < 128 {
-        return 0x47fffffe87ffffff;
-    }
-    0
-}
-
-fn is_alnum(b: u8) -> bool
-    ensures { λ r. ⌜ r ≡ isAlnum b ⌝ }
-{
-    ((48 <= b) & (b <= 57)) | ((65 <= b) & (b <= 90)) | ((97 <= b) & (b <= 122))
-}
-
-// Whether two letters or digits stand at `i`.
-fn has_two_alnum(value: &[u8], i: usize) -> bool
-    requires { ⌜ i ≤ length (now value) ⌝ }
-    ensures { λ r. ⌜ r ≡ twoAlnum (drop i (now (value .entry))) ⌝ }
-{
-    if value.len() - i < 2 {
-        return false;
-    }
-    is_alnum(value[i]) & is_alnum(value[i + 1])
 }
 
 fn is_allowed(value: &[u8], protocols: Protocols) -> bool

@@ -9,11 +9,12 @@ use native.Mathlib.Omega.{arith}
 use borrow.Author.Tests.{lt-ltb, le-ltb}
 use lib.Dec.{T}
 use lib.ListN.{length}
-use Rattle.utf8.specs.declared.Due.the-variants.{First, More}
-use Rattle.utf8.specs.Utf8.{afterFirst, afterMore, run, isWhole, isUtf8, isScalar, tail, charOf, Characters, none, one}
-use Rattle.utf8.specs.Private.{secondFrom, secondTo}
+use Rattle.utf8_due.specs.declared.Due.the-variants.{First, More}
+use Rattle.utf8_due.specs.Table.{afterFirst, afterMore, isWhole}
+use Rattle.utf8.specs.Utf8.{run, isUtf8, isScalar, tail, charOf, Characters, none, one}
+use Rattle.utf8_due.specs.Private.{secondFrom, secondTo}
 use Rattle.lent.proofs.Computed.{within, from, to, bounded}
-use Rattle.utf8.proofs.Table.{ascii-due, low-wrong, high-wrong, two-due, three-due, four-due}
+use Rattle.utf8_due.proofs.Table.{ascii-due, low-wrong, high-wrong, two-due, three-due, four-due}
 use Rattle.utf8.proofs.Run.{never-whole, taken}
 use Rattle.utf8.proofs.Laws.{empty, joined}
 use Rattle.utf8.proofs.Chars.{char-1, char-2, char-3, char-4, char-valid}

@@ -10,11 +10,12 @@ use native.Mathlib.Omega.{arith}
 use borrow.Author.Tests.{lt-ltb, le-ltb, ltb-true, eqb-true}
 use lib.Dec.{T, eqb, ltb}
 use Rattle.lent.specs.Bytes.{if_then_else_, between}
-use Rattle.utf8.specs.declared.Due.the-variants.{First, More}
-use Rattle.utf8.specs.Utf8.{afterFirst, afterMore, run, isUtf8, isScalar, tail, charOf, replacement}
-use Rattle.utf8.specs.Private.{secondFrom, secondTo}
+use Rattle.utf8_due.specs.declared.Due.the-variants.{First, More}
+use Rattle.utf8_due.specs.Table.{afterFirst, afterMore}
+use Rattle.utf8.specs.Utf8.{run, isUtf8, isScalar, tail, charOf, replacement}
+use Rattle.utf8_due.specs.Private.{secondFrom, secondTo}
 use Rattle.lent.proofs.Computed.{is-true, within, from, to}
-use Rattle.utf8.proofs.Table.{ascii-due, two-due, three-due, four-due}
+use Rattle.utf8_due.proofs.Table.{ascii-due, two-due, three-due, four-due}
 use Rattle.utf8.proofs.Laws.{of-first}
 
 -- ---- the bytes of a character, by its code

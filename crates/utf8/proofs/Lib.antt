@@ -1,4 +1,3 @@
-pub mod Table
 pub mod Run
 pub mod Walk
 pub mod Laws

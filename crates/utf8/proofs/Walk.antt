@@ -1,6 +1,6 @@
 -- The code's own cases: the walk over a text, by blocks of ASCII bytes and byte by byte. Assumes nothing.
 use mathlib.Core.Path.{_≡_, refl, _∙_}
-use mathlib.Core.Bool.{Bool, true, false, and-false}
+use mathlib.Core.Bool.{Bool, true, false}
 use mathlib.Core.List.{List, [], _∷_}
 use Prim.Native.Nat.{ℕ, zero, suc, _+_, _-_, _≤_, _<_}
 use native.Mathlib.Nat.{le-trans, le-refl, add-zero}
@@ -11,11 +11,12 @@ use lib.Bits.{bitOr, or-add-and, and-le-l, and-le-r}
 use lib.Dec.{ltb, leb}
 use lib.ListN.{length, take, drop, getD, length-drop, drop-of-length-le}
 use lib.Seq.{drop-cons, drop-drop}
-use Rattle.utf8.specs.declared.Due.{Due}
-use Rattle.utf8.specs.declared.Due.the-variants.{First, More, Wrong}
-use Rattle.utf8.specs.Utf8.{afterFirst, next, run, isWhole, isUtf8, inside}
+use Rattle.utf8_due.specs.declared.Due.{Due}
+use Rattle.utf8_due.specs.declared.Due.the-variants.{First, Wrong}
+use Rattle.utf8_due.specs.Table.{next, isWhole}
+use Rattle.utf8.specs.Utf8.{run, isUtf8, inside}
 use Rattle.utf8.specs.Private.{asciiRun, bitsOf}
-use Rattle.utf8.proofs.Table.{ascii-due}
+use Rattle.utf8_due.proofs.Table.{ascii-due}
 use Rattle.utf8.proofs.Run.{run-wrong}
 
 -- ---- the bits of a block
@@ -113,23 +114,7 @@ module _ (s : List ℕ) (i : ℕ) (d e : Due) (w : Bool) (p : isWhole (run d (dr
 pub ended : (s : List ℕ) (i : ℕ) (d : Due) (r w : Bool) → isWhole (run d (drop i s)) ≡ w → length s ≤ i → r ≡ isWhole d → r ≡ w
 ended s i d r w p h q = q ∙ (rw (drop-of-length-le s h) at p)
 
--- ---- one byte
-
-module _ (d : Due) (b left lo hi : ℕ) (e : d ≡ More left lo hi) where
-  pub more-low : b < lo → Wrong ≡ next d b
-  more-low h = rw (e, lt-leb lo b h)
-
-  pub more-high : hi < b → Wrong ≡ next d b
-  more-high h = rw (e, lt-leb b hi h, and-false)
-
-  pub more-last : lo ≤ b → b ≤ hi → left < 2 → First ≡ next d b
-  more-last h k l = rw (e, le-leb lo b h, le-leb b hi k, lt-ltb left 2 l)
-
-  pub more-on : lo ≤ b → b ≤ hi → 2 ≤ left → More (left - 1) 0x80 0xBF ≡ next d b
-  more-on h k l = rw (e, le-leb lo b h, le-leb b hi k, le-ltb left 2 l)
-
-pub first-due : (d r : Due) (b : ℕ) → d ≡ First → r ≡ afterFirst b → r ≡ next d b
-first-due d r b e p = rw e p
+-- ---- one byte of a text
 
 module _ (s : List ℕ) (i : ℕ) where
   pub past-end : length s ≤ i → false ≡ inside s i

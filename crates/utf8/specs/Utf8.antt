@@ -1,49 +1,21 @@
 -- UTF-8 by RFC 3629. Assumes nothing.
-use mathlib.Core.Bool.{Bool, true, false, _&&_, _||_}
+use mathlib.Core.Bool.{Bool, _&&_, _||_}
 use mathlib.Core.List.{List, [], _∷_, _++_}
-use Prim.Native.Nat.{ℕ, _+_, _-_, _/_, _%_}
-use lib.Dec.{T, eqb, ltb}
+use Prim.Native.Nat.{ℕ, _+_, _/_, _%_}
+use lib.Dec.{T, ltb}
 use lib.ListN.{length, getD}
 use Rattle.lent.specs.Bytes.{if_then_else_, between}
-use Rattle.utf8.specs.declared.Due.{Due}
-use Rattle.utf8.specs.declared.Due.the-variants.{First, More, Wrong}
+use Rattle.utf8_due.specs.declared.Due.{Due}
+use Rattle.utf8_due.specs.declared.Due.the-variants.{First}
+pub use Rattle.utf8_due.specs.Table.{next, isWhole}
+unfoldable pub use Rattle.utf8_due.specs.Table.{afterFirst, lengthOf}
 
--- ---- section 4: which bytes may follow which
-
--- what a first byte leaves due: the table of section 4
-unfoldable pub afterFirst : ℕ → Due
-afterFirst b =
-    if between 0x00 0x7F b then First
-    else if between 0xC2 0xDF b then More 1 0x80 0xBF
-    else if eqb b 0xE0 then More 2 0xA0 0xBF
-    else if between 0xE1 0xEC b then More 2 0x80 0xBF
-    else if eqb b 0xED then More 2 0x80 0x9F
-    else if between 0xEE 0xEF b then More 2 0x80 0xBF
-    else if eqb b 0xF0 then More 3 0x90 0xBF
-    else if between 0xF1 0xF3 b then More 3 0x80 0xBF
-    else if eqb b 0xF4 then More 3 0x80 0x8F
-    else Wrong
-
--- what is due behind one of `left` more bytes: a first byte where it was the last, else a tail, 80 to BF
-abbrev pub afterMore : ℕ → Due
-afterMore left = if ltb left 2 then First else More (left - 1) 0x80 0xBF
-
--- what is due behind the byte b, where d was due
-abbrev pub next : Due → ℕ → Due
-next First b = afterFirst b
-next (More left lo hi) b = if between lo hi b then afterMore left else Wrong
-next Wrong b = Wrong
+-- ---- a text, byte by byte
 
 -- what is due behind a text
 abbrev pub run : Due → List ℕ → Due
 run d [] = d
 run d (b ∷ bs) = run (next d b) bs
-
--- no character is left unfinished
-abbrev pub isWhole : Due → Bool
-isWhole First = true
-isWhole (More left lo hi) = false
-isWhole Wrong = false
 
 unfoldable pub isUtf8 : List ℕ → Bool
 isUtf8 s = isWhole (run First s)
@@ -61,15 +33,6 @@ isContinuation b = between 0x80 0xBF b
 -- whether the place i of a text is inside a character: the byte that stands there goes on a character
 unfoldable pub inside : List ℕ → ℕ → Bool
 inside s i = ltb i (length s) && isContinuation (getD s i 0)
-
--- a character's length by its first byte, 0 for a byte that is no first byte
-unfoldable pub lengthOf : ℕ → ℕ
-lengthOf b =
-    if between 0x00 0x7F b then 1
-    else if between 0xC0 0xDF b then 2
-    else if between 0xE0 0xEF b then 3
-    else if between 0xF0 0xF7 b then 4
-    else 0
 
 -- ---- section 3: the bytes of a character
 

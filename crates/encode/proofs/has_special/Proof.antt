@@ -5,7 +5,7 @@ use Prim.Native.Nat.{_+_, _-_}
 use lib.ListN.{take, drop}
 use Rattle.lent.specs.Bytes.{any}
 use Rattle.lent.proofs.Laws.{any-start, any-more, any-end}
-use Rattle.encode.specs.Private.{isSpecial}
+use Rattle.encode_byte.specs.Private.{isSpecial}
 use borrow.Author.Needs.{needs}
 use Rattle.encode.proofs.has_special.Statement.{statement}
 use Rattle.encode.proofs.has_special.Tie as tie

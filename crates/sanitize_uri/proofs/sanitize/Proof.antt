@@ -1,6 +1,6 @@
 -- The walk with encoding on. Assumes nothing.
 use Rattle.lent.proofs.Laws.{same}
-use Rattle.sanitize_uri.proofs.Laws.{sanitized}
+use Rattle.sanitize_uri.proofs.Schemes.{sanitized}
 use borrow.Author.Needs.{needs}
 use Rattle.sanitize_uri.proofs.sanitize.Statement.{statement}
 use Rattle.sanitize_uri.proofs.sanitize.Tie as tie

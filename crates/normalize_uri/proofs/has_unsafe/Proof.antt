@@ -1,0 +1,56 @@
+-- The loop's invariant: what was seen and what is left make up the answer. Assumes nothing.
+use mathlib.Core.Path.{_≡_}
+use mathlib.Core.Bool.{_||_}
+use Prim.Native.Nat.{_+_, _-_}
+use lib.ListN.{take, drop}
+use Rattle.lent.specs.Bytes.{any}
+use Rattle.lent.proofs.Laws.{any-start, any-more, any-end}
+use Rattle.url_byte.specs.Private.{isUnsafe}
+use borrow.Author.Needs.{needs}
+use Rattle.normalize_uri.proofs.has_unsafe.Statement.{statement}
+use Rattle.normalize_uri.proofs.has_unsafe.Tie as tie
+
+abbrev Inv-loop : tie.InvT-loop
+Inv-loop value i found₀ k₀ found k = (found || any isUnsafe (take (16 - k) (drop (i + k) value))) ≡ any isUnsafe (take 16 (drop i value))
+
+abbrev μ-loop : tie.MeasureT-loop
+μ-loop value i found₀ k₀ found k = 16 - k
+
+loop-holds : tie.Need-loop-holds Inv-loop μ-loop
+loop-holds c = search any-start
+
+add-is-unsafe : tie.Need-add-is-unsafe Inv-loop μ-loop
+add-is-unsafe c = search needs
+
+shared-slice-read-is-unsafe : tie.Need-shared-slice-read-is-unsafe Inv-loop μ-loop
+shared-slice-read-is-unsafe c = search needs
+
+is-unsafe-requires : tie.Need-is-unsafe-requires Inv-loop μ-loop
+is-unsafe-requires c κs = search needs
+
+add-k : tie.Need-add-k Inv-loop μ-loop
+add-k c = search needs
+
+loop-less : tie.Need-loop-less Inv-loop μ-loop
+loop-less c = search needs
+
+loop-again : tie.Need-loop-again Inv-loop μ-loop
+loop-again c = search any-more
+
+returns : tie.Need-returns Inv-loop μ-loop
+returns c = search any-end
+
+pub has-unsafe-spec : {M : Type 1} → statement M
+has-unsafe-spec =
+    tie.close
+    (tie.spec
+    Inv-loop
+    μ-loop
+    loop-holds
+    add-is-unsafe
+    shared-slice-read-is-unsafe
+    is-unsafe-requires
+    add-k
+    loop-less
+    loop-again
+    returns)
