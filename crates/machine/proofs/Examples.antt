@@ -1,0 +1,62 @@
+-- 01's worked examples and the entries of its "Proved table" on code text and table cells, by computation. Assumes nothing.
+use mathlib.Core.Path.{_≡_, refl}
+use mathlib.Core.List.{List, [], _∷_, _++_}
+use mathlib.Core.Option.{none, some}
+use Prim.Native.Nat.{ℕ}
+use Rattle.lent.specs.Bytes.{bytes}
+use Rattle.event.specs.declared.Event.{Event}
+use Rattle.machine.specs.declared.Ending.the-variants.{Lf}
+use Rattle.machine.specs.Outcome.{Outcome, go}
+use Rattle.machine.specs.Text.{codeOf}
+use Rattle.machine.specs.Run.{Answer, page, refused, runOf, machineOf}
+use Rattle.machine.proofs.Running.{running}
+use Rattle.machine.proofs.Answers.{off, enter, exit, enterWith}
+
+-- ---- code text
+
+pub code :
+    (codeOf none (bytes " a ") ≡ bytes "a")
+    × (codeOf none (bytes "  ") ≡ bytes "  ")
+    × (codeOf none (bytes "   ") ≡ bytes "   ")
+    × (codeOf (some []) (bytes "a\\|b") ≡ bytes "a|b")
+unfolding running
+code = (refl, refl, refl, refl)
+
+-- a paragraph of code text, and a table of one cell that holds some: n bytes each
+abbrev codeText : ℕ → List Event
+codeText n = enter 33 ∷ enter 34 ∷ exit 34 0 n ∷ exit 33 0 n ∷ []
+
+abbrev inParagraph : ℕ → List Event
+inParagraph n = enter 12 ∷ codeText n ++ (exit 12 0 n ∷ [])
+
+abbrev inCell : ℕ → List Event
+inCell n =
+    enterWith 57 1 ∷ enter 58 ∷ enter 60 ∷ enter 61 ∷ codeText n
+    ++ (exit 61 0 n ∷ exit 60 0 n ∷ exit 58 0 n ∷ exit 57 0 n ∷ [])
+
+pub codePages :
+    (machineOf (bytes " a ") (off Lf) (inParagraph 3) ≡ go (bytes "<p><code>a</code></p>"))
+    × (machineOf (bytes "  ") (off Lf) (inParagraph 2) ≡ go (bytes "<p><code>  </code></p>"))
+    × (machineOf (bytes "   ") (off Lf) (inParagraph 3) ≡ go (bytes "<p><code>   </code></p>"))
+    × (machineOf (bytes "a\\|b") (off Lf) (inParagraph 4) ≡ go (bytes "<p><code>a\\|b</code></p>"))
+    × (machineOf (bytes "a\\|b") (off Lf) (inCell 4) ≡ go (bytes "<table>\n<thead>\n<tr>\n<th><code>a|b</code></th>\n</tr>\n</thead>\n</table>"))
+unfolding running
+codePages = (refl, refl, refl, refl, refl)
+
+-- ---- the worked examples
+
+abbrev paragraph : List Event
+paragraph = enter 12 ∷ enter 5 ∷ exit 5 0 1 ∷ exit 12 0 1 ∷ enter 3 ∷ exit 3 1 2 ∷ []
+
+-- an ordered list of one empty item, whose value is n bytes long
+abbrev listOf : ℕ → List Event
+listOf n = enter 21 ∷ enter 23 ∷ enter 24 ∷ enter 26 ∷ exit 26 0 n ∷ enter 25 ∷ exit 25 n n ∷ exit 24 0 n ∷ exit 23 0 n ∷ exit 21 0 n ∷ []
+
+pub worked :
+    (runOf (bytes "a\n") (off Lf) 9 paragraph ≡ page (bytes "<p>a</p>\n"))
+    × (runOf (bytes "a\n") (off Lf) 8 paragraph ≡ refused 9 5)
+    × (machineOf (bytes "007") (off Lf) (listOf 3) ≡ go (bytes "<ol start=\"7\">\n<li></li>\n</ol>"))
+    × (machineOf (bytes "1") (off Lf) (listOf 1) ≡ go (bytes "<ol>\n<li></li>\n</ol>"))
+    × (runOf [] (off Lf) 0 [] ≡ page [])
+unfolding running
+worked = (refl, refl, refl, refl, refl)

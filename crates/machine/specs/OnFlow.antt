@@ -1,0 +1,73 @@
+-- Handlers of paragraphs, quotes, headings and code blocks. Assumes nothing.
+use mathlib.Core.Bool.{true, false}
+use mathlib.Core.Option.{none, some}
+use Rattle.machine.specs.Set.{slurp}
+use Rattle.machine.specs.Test.{isTight, isInContainer, hasRank, hasSeenData, isFirstFence, isFencedOnce, isFenceMissing, isUnderlinedByDashes, isBehindFence}
+use Rattle.machine.specs.Command.{Command, _▸_, whether, when, unless, put, chunk, rank, lineEnding, lineEndingIfNeeded, resume, hold, release, set, tighten, loosen, keepRank, forgetRank, seenData, fences, countFence}
+
+-- ---- paragraphs, quotes, thematic breaks
+
+unfoldable pub onEnterParagraph : Command
+onEnterParagraph = unless isTight (lineEndingIfNeeded ▸ put "<p>")
+
+unfoldable pub onExitParagraph : Command
+onExitParagraph = whether isTight (set slurp true) (put "</p>")
+
+unfoldable pub onEnterBlockQuote : Command
+onEnterBlockQuote = tighten false ▸ lineEndingIfNeeded ▸ put "<blockquote>"
+
+unfoldable pub onExitBlockQuote : Command
+onExitBlockQuote = loosen ▸ lineEndingIfNeeded ▸ set slurp false ▸ put "</blockquote>"
+
+unfoldable pub onExitThematicBreak : Command
+onExitThematicBreak = lineEndingIfNeeded ▸ put "<hr />"
+
+-- ---- headings
+
+-- the first sequence gives the rank
+unfoldable pub onExitHeadingAtxSequence : Command
+onExitHeadingAtxSequence = unless hasRank (lineEndingIfNeeded ▸ keepRank ▸ put "<h" ▸ rank ▸ put ">")
+
+unfoldable pub onExitHeadingAtxText : Command
+onExitHeadingAtxText = resume "" ""
+
+unfoldable pub onExitHeadingAtx : Command
+onExitHeadingAtx = put "</h" ▸ rank ▸ put ">" ▸ forgetRank
+
+unfoldable pub onExitHeadingSetextText : Command
+onExitHeadingSetextText = hold ▸ set slurp true
+
+unfoldable pub setextRank : Command
+setextRank = whether isUnderlinedByDashes (put "2") (put "1")
+
+unfoldable pub onExitHeadingSetextUnderlineSequence : Command
+onExitHeadingSetextUnderlineSequence = lineEndingIfNeeded ▸ put "<h" ▸ setextRank ▸ put ">" ▸ release ▸ put "</h" ▸ setextRank ▸ put ">"
+
+-- ---- code blocks
+
+unfoldable pub onEnterCodeIndented : Command
+onEnterCodeIndented = seenData (some false) ▸ lineEndingIfNeeded ▸ put "<pre><code>"
+
+-- no > yet: the info comes first
+unfoldable pub onEnterRawFlow : Command
+onEnterRawFlow = seenData (some false) ▸ lineEndingIfNeeded ▸ put "<pre><code" ▸ fences (some 0)
+
+unfoldable pub onExitRawFlowFence : Command
+onExitRawFlowFence = when isFirstFence (put ">" ▸ set slurp true) ▸ countFence
+
+unfoldable pub onExitRawFlowFenceInfo : Command
+onExitRawFlowFenceInfo = resume " class=\"language-" "\""
+
+unfoldable pub onExitRawFlowChunk : Command
+onExitRawFlowChunk = seenData (some true) ▸ chunk
+
+-- in a container the line ending behind code that has no closing fence belongs to the code
+unfoldable pub onExitRawFlow : Command
+onExitRawFlow =
+    when isFencedOnce (when isInContainer (unless isBehindFence lineEnding))
+    ▸ when hasSeenData lineEndingIfNeeded
+    ▸ seenData none
+    ▸ put "</code></pre>"
+    ▸ when isFenceMissing lineEndingIfNeeded
+    ▸ fences none
+    ▸ set slurp false

@@ -1,0 +1,22 @@
+-- Handlers of footnotes. Assumes nothing.
+use mathlib.Core.Bool.{false}
+use Rattle.machine.specs.Command.{Command, _▸_, buffer, drop, tighten, loosen, openMedia, footnoteLabel, keepFootnote, call}
+
+unfoldable pub onEnterGfmFootnoteCall : Command
+onEnterGfmFootnoteCall = openMedia false
+
+unfoldable pub onExitGfmFootnoteCall : Command
+onExitGfmFootnoteCall = call
+
+unfoldable pub onEnterGfmFootnoteDefinition : Command
+onEnterGfmFootnoteDefinition = tighten false
+
+unfoldable pub onExitGfmFootnoteDefinitionLabelString : Command
+onExitGfmFootnoteDefinitionLabelString = footnoteLabel
+
+-- drop the prefix; capture everything until the end of the definition
+unfoldable pub onExitGfmFootnoteDefinitionPrefix : Command
+onExitGfmFootnoteDefinitionPrefix = drop ▸ buffer
+
+unfoldable pub onExitGfmFootnoteDefinition : Command
+onExitGfmFootnoteDefinition = keepFootnote ▸ loosen

@@ -1,0 +1,30 @@
+// The definition's machine: specs/ alone matters here. These types are declared so that the code's state can hold the same ones.
+
+// What the next handlers go by.
+pub struct Flags {
+    // the next line ending is swallowed
+    pub slurp: bool,
+    // & < > " are encoded
+    pub encode: bool,
+    // in code text
+    pub raw: bool,
+    // in the text of an image
+    pub alt: bool,
+    // in the head of a table
+    pub head: bool,
+}
+
+// A line ending.
+pub enum Ending {
+    Lf,
+    Cr,
+    CrLf,
+}
+
+// What the caller chooses; the ending is the default, for a text that has none.
+pub struct Options {
+    pub allow_dangerous_html: bool,
+    pub allow_dangerous_protocol: bool,
+    pub allow_any_img_src: bool,
+    pub ending: Ending,
+}

@@ -1,0 +1,1 @@
+// Pages of the crate markdown, computed by the prover from its events: proofs/ alone matters.
