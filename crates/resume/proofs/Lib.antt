@@ -1,0 +1,4 @@
+pub mod Parts
+pub mod Written
+pub mod Moves
+pub mod Trimmed
