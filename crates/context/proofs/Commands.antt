@@ -1,0 +1,169 @@
+-- How commands go together: one law for each way. Assumes nothing.
+use mathlib.Core.Path.{_≡_, refl, sym, ap, _∙_}
+use mathlib.Core.Bool.{Bool, true, false, not}
+use mathlib.Core.List.{List, [], _∷_}
+use mathlib.Core.Option.{Option, none, some}
+use Prim.Native.Nat.{ℕ}
+use Prim.Native.String.{String}
+use native.Mathlib.Omega.{arith}
+use lib.ListN.{length}
+use borrow.Author.Tests.{not-true, not-false}
+use Rattle.lent.specs.Bytes.{bytes}
+use Rattle.event.specs.declared.Event.{Event}
+use Rattle.event.specs.Event.{named}
+use Rattle.machine.specs.State.{State}
+use Rattle.machine.specs.Outcome.{Outcome, stop, go, _>>=_, need}
+use Rattle.machine.specs.Buffers.{push}
+use Rattle.machine.specs.Set.{Flag, alt, flagOf}
+use Rattle.machine.specs.Turn.{Turn, justBefore, isAfterDefinition}
+use Rattle.machine.specs.Test.{Test, is, isBehindFence, isHtmlAllowed, isLast, isBehindDefinition, test}
+use Rattle.machine.specs.Command.{Command, nothing, _▸_, whether, put, tag, exec}
+use Rattle.context.specs.declared.Context.{Context}
+use Rattle.context.specs.Rel.{Beside, Rel, NoDeeper, Any, Keeps, Grows, Widens, Sets, Pushes, Tells, FenceBefore, HtmlAllowed, IsLast, Sees, SeesEnding, Opens, Begins}
+use Rattle.context.proofs.Laws.{pushed, same-as}
+
+-- ---- outcomes
+
+pub never : {X A : Type 0} {u : A} → stop ≡ go u → X
+never p = let z : _≡_ {A = ℕ} 0 1 = cc in absurd (omega arith)
+
+-- where the whole goes on, so does the first part, and the second from there
+pub first-goes : {A B : Type 0} (x : Outcome A) (f : A → Outcome B) (u : B) → (x >>= f) ≡ go u → (v : A) × (x ≡ go v) × (f v ≡ go u)
+first-goes stop f u p = let z : _≡_ {A = ℕ} 0 1 = cc in absurd (omega arith)
+first-goes (go v) f u p = (v, refl, p)
+
+pub no-deeper : {s v u : State} → NoDeeper s v → NoDeeper v u → NoDeeper s u
+no-deeper p q = record { captures = omega (arith, p .captures, q .captures); tight = omega (arith, p .tight, q .tight) }
+
+module _ {View : Turn → Type 0} where
+  pub any : {d : Command} {c r : Context} {w o w′ o′ : List ℕ} → Keeps Any d c w o r w′ o′ → Keeps View d c w o r w′ o′
+  any k = record { keeps = λ t b s u v x p. k .keeps t b s u (record {}) x p }
+
+  pub idle : {c : Context} {w o : List ℕ} → Keeps View nothing c w o c w o
+  unfolding exec
+  idle = record { keeps = λ t b s u v x p. (let q : s ≡ u = cc in rw (← q) (x, record { captures = omega arith; tight = omega arith })) }
+
+  pub seq : {d e : Command} {c r q : Context} {w o w′ o′ w″ o″ : List ℕ} → Keeps View d c w o r w′ o′ → Keeps View e r w′ o′ q w″ o″ → Keeps View (d ▸ e) c w o q w″ o″
+  unfolding exec
+  seq {d} {e} k l = record {
+    keeps = λ t b s u v x p.
+        let f = first-goes (exec d t s) (λ y. exec e t y) u p in
+        let m = k .keeps t b s (f .0) v x (f .1) in
+        let n = l .keeps t b (f .0) u v (m .0) (f .2) in
+        (n .0, no-deeper (m .1) (n .1));
+  }
+
+  module _ {q : Test} {d e : Command} {c r : Context} {w o w′ o′ : List ℕ} {x : Bool} where
+    pub whether-yes : Tells View q c x → x ≡ true → Keeps View d c w o r w′ o′ → Keeps View (whether q d e) c w o r w′ o′
+    unfolding exec
+    whether-yes a h k = record {
+      keeps = λ t b s u v y p.
+          let f = first-goes (test q t s) (elim [ true ↦ exec d t s | false ↦ exec e t s ]) u p in
+          let z : f .0 ≡ true = a .tells t w o b s (f .0) v y (f .1) ∙ h in
+          k .keeps t b s u v y (rw z at (f .2));
+    }
+
+    pub whether-no : Tells View q c x → x ≡ false → Keeps View e c w o r w′ o′ → Keeps View (whether q d e) c w o r w′ o′
+    unfolding exec
+    whether-no a h k = record {
+      keeps = λ t b s u v y p.
+          let f = first-goes (test q t s) (elim [ true ↦ exec d t s | false ↦ exec e t s ]) u p in
+          let z : f .0 ≡ false = a .tells t w o b s (f .0) v y (f .1) ∙ h in
+          k .keeps t b s u v y (rw z at (f .2));
+    }
+
+  pub puts : {text : String} {c r : Context} {w o w′ o′ : List ℕ} → Pushes (bytes text) c w o r w′ o′ → Keeps View (put text) c w o r w′ o′
+  unfolding exec
+  puts {text} k = record {
+    keeps = λ t b s u v x p.
+        let q : push (bytes text) s ≡ u = cc in
+        rw (← q) (k .pushes b s x, same-as (pushed (bytes text) s));
+  }
+
+  -- ---- flags
+
+  pub tells-alt : {c : Context} → Tells View (is alt) c (c .flags .alt)
+  unfolding test
+  tells-alt = record { tells = λ t w o b s y v x p. (let q : s .flags .alt ≡ y = cc in sym q ∙ sym (ap (λ f. f .alt) (x .flags))) }
+
+  -- a tag: none in an image's text
+  pub no-tag : {text : String} {c : Context} {w o : List ℕ} → c .flags .alt ≡ true → Keeps View (tag text) c w o c w o
+  no-tag h = whether-yes tells-alt h idle
+
+  pub tags : {text : String} {c r : Context} {w o w′ o′ : List ℕ} → c .flags .alt ≡ false → Pushes (bytes text) c w o r w′ o′ → Keeps View (tag text) c w o r w′ o′
+  tags h k = whether-no tells-alt h (puts k)
+
+-- ---- without a byte, and one more open
+
+module _ {View : Turn → Type 0} where
+  pub sets : {d : Command} {c r : Context} {w o : List ℕ} → Sets d c r → Keeps View d c w o r w o
+  sets {w = w} {o = o} k = any (k .sets w o)
+
+  pub widens : {d : Command} {c r : Context} {w o : List ℕ} → Widens d c r → Grows View d c w o r w o
+  widens {w = w} {o = o} k = record { grows = λ t b s u v h x p. k .widens w o .grows t b s u (record {}) h x p }
+
+  pub grows-seq : {d e : Command} {c r q : Context} {w o w′ o′ w″ o″ : List ℕ} → Grows View d c w o r w′ o′ → Keeps View e r w′ o′ q w″ o″ → Grows View (d ▸ e) c w o q w″ o″
+  unfolding exec
+  grows-seq {d} {e} k l = record {
+    grows = λ t b s u v h x p.
+        let f = first-goes (exec d t s) (λ y. exec e t y) u p in
+        l .keeps t b (f .0) u v (k .grows t b s (f .0) v h x (f .1)) (f .2) .0;
+  }
+
+-- a test that is made the other way round
+pub unmet : {View : Turn → Type 0} {q : Test} {d e : Command} {c r : Context} {w o w′ o′ : List ℕ} {x : Bool} → Tells View q c x → not x ≡ true → Keeps View e c w o r w′ o′ → Keeps View (whether q d e) c w o r w′ o′
+unmet {x = x} a h k = whether-no a (not-true x h) k
+
+pub met : {View : Turn → Type 0} {q : Test} {d e : Command} {c r : Context} {w o w′ o′ : List ℕ} {x : Bool} → Tells View q c x → not x ≡ false → Keeps View d c w o r w′ o′ → Keeps View (whether q d e) c w o r w′ o′
+met {x = x} a h k = whether-yes a (not-false x h) k
+
+pub told : {View : Turn → Type 0} {q : Test} {c : Context} {x : Bool} → Tells Any q c x → Tells View q c x
+told a = record { tells = λ t w o b s y v r p. a .tells t w o b s y (record {}) r p }
+
+pub tells-fence : {c : Context} {x : Bool} → Tells (FenceBefore x) isBehindFence c x
+unfolding test
+tells-fence = record { tells = λ t w o b s y v r p. fence-there (justBefore (t .before)) refl y v p }
+  where
+    fence-there : {x : Bool} {t : Turn} (e : Option Event) → justBefore (t .before) ≡ e → (y : Bool) → FenceBefore x t → (need (justBefore (t .before)) >>= λ e. go (named (29 ∷ []) e)) ≡ go y → y ≡ x
+    fence-there none q y v p = never (rw q at p)
+    fence-there (some e) q y v p = let z : go (named (29 ∷ []) e) ≡ go y = rw q at p in let i : named (29 ∷ []) e ≡ y = cc in sym i ∙ v .fence-is e q
+
+-- ---- by what a turn shows
+
+pub narrow : {View Wide : Turn → Type 0} {d : Command} {c r : Context} {w o w′ o′ : List ℕ} → ((t : Turn) → View t → Wide t) → Keeps Wide d c w o r w′ o′ → Keeps View d c w o r w′ o′
+narrow f k = record { keeps = λ t b s u v x p. k .keeps t b s u (f t v) x p }
+
+pub tells-flag : {View : Turn → Type 0} {c : Context} (f : Flag) → Tells View (is f) c (flagOf f (c .flags))
+unfolding test
+tells-flag f = record { tells = λ t w o b s y v x p. (let q : flagOf f (s .flags) ≡ y = cc in sym q ∙ ap (flagOf f) (sym (x .flags))) }
+
+pub tells-html : {c : Context} {x : Bool} → Tells (HtmlAllowed x) isHtmlAllowed c x
+unfolding test
+tells-html = record { tells = λ t w o b s y v r p. (let q : t .options .«allow_dangerous_html» ≡ y = cc in sym q ∙ v .allowed-is) }
+
+pub tells-last : {c : Context} {x : Bool} → Tells (IsLast x) isLast c x
+unfolding test
+tells-last = record { tells = λ t w o b s y v r p. (let q : t .last ≡ y = cc in sym q ∙ v .last-is) }
+
+pub tells-behind : {c : Context} {text : List ℕ} {e : Event} {x : Bool} → Tells (SeesEnding text e x) isBehindDefinition c x
+unfolding test
+tells-behind = record { tells = λ t w o b s y v r p. (let q : isAfterDefinition (t .before) ≡ y = cc in sym q ∙ v .behind-is) }
+
+-- ---- one more open, last
+
+module _ {View : Turn → Type 0} where
+  pub begins : {d : Command} {c r : Context} {w o st st′ : List ℕ} → Begins d c st r st′ → Opens View d c w st o r w st′ o
+  begins {w = w} {o = o} k = record { opens = λ t s u v h l x p. k .begins w o .opens t s u (record {}) h l x p }
+
+  pub opens-last : {d e : Command} {c r q : Context} {w o st w′ o′ w″ o″ st″ : List ℕ} → Keeps View d c w o r w′ o′ → Opens View e r w′ st o′ q w″ st″ o″ → Opens View (d ▸ e) c w st o q w″ st″ o″
+  unfolding exec
+  opens-last {d} {e} {st = st} k l = record {
+    opens = λ t s u v h n x p.
+        let f = first-goes (exec d t s) (λ y. exec e t y) u p in
+        let m = k .keeps t (record { starts = st }) s (f .0) v x (f .1) in
+        let a = m .1 .captures in
+        let b = m .1 .tight in
+        let h1 = h .captures in
+        let h2 = h .tight in
+        l .opens t (f .0) u v (record { captures = omega arith; tight = omega arith }) n (m .0) (f .2);
+  }

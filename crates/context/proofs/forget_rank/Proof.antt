@@ -1,0 +1,10 @@
+-- No rank.
+use Rattle.context.proofs.forget_rank.Statement.{statement}
+use Rattle.context.proofs.forget_rank.Tie as tie
+use Rattle.context.proofs.Plain.{forgets}
+
+returns : tie.Need-returns
+returns c = search forgets
+
+pub forget-rank-spec : {M : Type 1} → statement M
+forget-rank-spec = tie.close (tie.spec returns)

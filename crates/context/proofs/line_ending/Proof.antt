@@ -1,0 +1,20 @@
+-- The buffers alone change.
+use borrow.Author.Needs.{needs}
+use Rattle.context.proofs.line_ending.Statement.{statement}
+use Rattle.context.proofs.line_ending.Tie as tie
+use Rattle.context.proofs.Laws.{ending}
+
+line-ending-requires : tie.Need-line-ending-requires
+line-ending-requires c κs = search needs
+
+same-length : tie.Need-same-length
+same-length c = search needs
+
+same-length-2 : tie.Need-same-length-2
+same-length-2 c = search needs
+
+returns : tie.Need-returns
+returns c = search ending
+
+pub line-ending-spec : {M : Type 1} → statement M
+line-ending-spec = tie.close (tie.spec line-ending-requires same-length same-length-2 returns)

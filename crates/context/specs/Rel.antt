@@ -1,0 +1,205 @@
+-- How the machine's state stands in the code's, and what a function does that keeps it so. Assumes nothing.
+use mathlib.Core.Path.{_≡_}
+use mathlib.Core.Bool.{Bool, true, false}
+use mathlib.Core.List.{List, [], _∷_}
+use mathlib.Core.Option.{Option, none, some}
+use Prim.Native.Nat.{ℕ, zero, suc, _+_, _*_, _/_, _%_, _^_, _≤_, _<_}
+use lib.Dec.{eqb}
+use lib.ListN.{length}
+use Rattle.lent.specs.Bytes.{if_then_else_}
+use Rattle.event.specs.declared.Event.{Event}
+use Rattle.event.specs.Event.{named, alignmentsOf}
+use Rattle.character_reference.specs.declared.Marker.{Marker}
+use Rattle.machine.specs.State as State
+use Rattle.machine.specs.State.{State}
+use Rattle.machine.specs.Outcome.{Outcome, stop, go}
+use Rattle.machine.specs.Buffers.{push}
+use Rattle.machine.specs.Turn.{Turn, justBefore, isAfterDefinition}
+use Rattle.machine.specs.Test.{Test, test}
+use Rattle.machine.specs.Command.{Command, exec}
+use Rattle.buffers.specs.Stand.{Stand}
+use Rattle.context.specs.declared.Number.{Number}
+use Rattle.context.specs.declared.Number.the-variants as N
+use Rattle.context.specs.declared.Answer.{Answer}
+use Rattle.context.specs.declared.Answer.the-variants as A
+use Rattle.context.specs.declared.Fences.{Fences}
+use Rattle.context.specs.declared.Fences.the-variants as F
+use Rattle.context.specs.declared.Mark.{Mark}
+use Rattle.context.specs.declared.Mark.the-variants as M
+use Rattle.context.specs.declared.Waiting.{Waiting}
+use Rattle.context.specs.declared.Tight.{Tight}
+use Rattle.context.specs.declared.Table.{Table}
+use Rattle.context.specs.declared.Context.{Context}
+
+-- ---- the parts
+
+abbrev pub numberOf : Number → Option ℕ
+numberOf N.Unset = none
+numberOf (N.Is n) = some n
+
+abbrev pub answerOf : Answer → Option Bool
+answerOf A.Unset = none
+answerOf A.Yes = some true
+answerOf A.No = some false
+
+abbrev pub markOf : Mark → Option Marker
+markOf M.Unset = none
+markOf (M.Is m) = some m
+
+-- counted up to two: no handler asks for more
+abbrev pub Fenced : Fences → Option ℕ → Type 0
+Fenced F.Outside none = Unit
+Fenced F.Outside (some n) = ⊥
+Fenced F.Zero none = ⊥
+Fenced F.Zero (some n) = n ≡ 0
+Fenced F.One none = ⊥
+Fenced F.One (some n) = n ≡ 1
+Fenced F.More none = ⊥
+Fenced F.More (some n) = 2 ≤ n
+
+-- a setext heading's text stands among the held bytes
+pub record Waits (w : Waiting) (a : State.Waiting) : Type 0 where
+  pub rank : numberOf (w .rank) ≡ a .rank
+  pub seen : answerOf (w .seen) ≡ a .seen
+  pub fences : Fenced (w .fences) (a .fences)
+  pub marker : markOf (w .marker) ≡ a .marker
+  pub first : answerOf (w .first) ≡ a .first
+
+-- n containers, the newest in the lowest bit
+abbrev pub containers : ℕ → ℕ → List Bool
+containers zero bits = []
+containers (suc n) bits = eqb (bits % 2) 1 ∷ containers n (bits / 2)
+
+pub record Tightened (t : Tight) (a : List Bool) : Type 0 where
+  pub count : t .count ≡ length a
+  pub bits : containers (t .count) (t .bits) ≡ a
+  pub small : t .bits < 2 ^ t .count
+
+-- what stands beside the captures and the page, and is not touched by handlers that are not lent it
+pub record Beside : Type 0 where
+  pub starts : List ℕ
+
+abbrev pub bitOf : Bool → ℕ
+bitOf true = 1
+bitOf false = 0
+
+-- one more container, x
+abbrev pub wider : Bool → Context → Context
+wider x c =
+    record {
+      buffers = c .buffers;
+      flags = c .flags;
+      waiting = c .waiting;
+      tight = record { bits = c .tight .bits * 2 + bitOf x; count = c .tight .count + 1 };
+      table = c .table;
+      ending = c .ending;
+    }
+
+-- with other fences
+abbrev pub fencedBy : Fences → Context → Context
+fencedBy x c =
+    record {
+      buffers = c .buffers;
+      flags = c .flags;
+      waiting = record { rank = c .waiting .rank; seen = c .waiting .seen; fences = x; marker = c .waiting .marker; first = c .waiting .first };
+      tight = c .tight;
+      table = c .table;
+      ending = c .ending;
+    }
+
+-- in a table: the alignments that its enter's extra field holds
+abbrev pub enterOf : (extra : ℕ) → Event
+enterOf extra = record { kind = 0; name = 57; before = 0; after = 0; from = record { 0 = 0 }; to = record { 0 = 0 }; extra = extra }
+
+abbrev pub alignsOf : Table → Option (List ℕ)
+alignsOf t = if t .inside then some (alignmentsOf (enterOf (t .extra))) else none
+
+pub record Tabled (t : Table) (a : State.Table) : Type 0 where
+  pub aligns : alignsOf t ≡ a .aligns
+  pub column : t .column ≡ a .column
+
+pub record Rel (c : Context) (captures out : List ℕ) (b : Beside) (s : State) : Type 0 where
+  pub stand : Stand (c .buffers) captures (b .starts) out s
+  pub flags : c .flags ≡ s .flags
+  pub waits : Waits (c .waiting) (s .waiting)
+  pub tight : Tightened (c .tight) (s .tight)
+  pub table : Tabled (c .table) (s .table)
+  pub ending : c .ending ≡ s .ending
+
+-- ---- what a function does
+
+-- no deeper than before
+pub record NoDeeper (s u : State) : Type 0 where
+  pub captures : length (u .captures) ≤ length (s .captures)
+  pub tight : length (u .tight) ≤ length (s .tight)
+
+-- one more of each has a place
+pub record Shallow (s : State) : Type 0 where
+  pub captures : length (s .captures) < 64
+  pub tight : length (s .tight) < 64
+
+-- any turn, and one in which this event of this text is handled
+pub record Any (t : Turn) : Type 0 where
+
+pub record Sees (text : List ℕ) (e : Event) (t : Turn) : Type 0 where
+  pub text-is : t .text ≡ text
+  pub event-is : t .event ≡ e
+
+-- one before which a fence ends, or none does
+pub record FenceBefore (x : Bool) (t : Turn) : Type 0 where
+  pub fence-is : (e : Event) → justBefore (t .before) ≡ some e → named (29 ∷ []) e ≡ x
+
+-- one in which dangerous HTML is allowed or not, and the last one or not
+pub record HtmlAllowed (x : Bool) (t : Turn) : Type 0 where
+  pub allowed-is : t .options .«allow_dangerous_html» ≡ x
+
+pub record IsLast (x : Bool) (t : Turn) : Type 0 where
+  pub last-is : t .last ≡ x
+
+-- one of a line ending, behind a definition or not
+pub record SeesEnding (text : List ℕ) (e : Event) (x : Bool) (t : Turn) : Type 0 where
+  pub sees : Sees text e t
+  pub behind-is : isAfterDefinition (t .before) ≡ x
+
+-- where the machine goes on with a command, the code goes with it, and no deeper
+pub record Keeps (View : Turn → Type 0) (d : Command) (c : Context) (captures out : List ℕ) (r : Context) (captures′ out′ : List ℕ) : Type 0 where
+  pub keeps : (t : Turn) (b : Beside) (s u : State) → View t → Rel c captures out b s → exec d t s ≡ go u → Rel r captures′ out′ b u × NoDeeper s u
+
+-- the same where no buffer lacks room: what takes a capture off needs its bytes
+pub record Takes (View : Turn → Type 0) (d : Command) (c : Context) (captures starts out : List ℕ) (r : Context) (captures′ out′ : List ℕ) : Type 0 where
+  pub takes : (t : Turn) (b : Beside) (s u : State) → View t → b .starts ≡ starts → c .buffers .end ≤ length captures → Rel c captures out b s → exec d t s ≡ go u
+      → Rel r captures′ out′ b u × NoDeeper s u
+
+-- the same where one more may be opened, in the table of starts too
+pub record Opens (View : Turn → Type 0) (d : Command) (c : Context) (captures starts out : List ℕ) (r : Context) (captures′ starts′ out′ : List ℕ) : Type 0 where
+  pub opens : (t : Turn) (s u : State) → View t → Shallow s → length starts ≡ 64 → Rel c captures out (record { starts = starts }) s → exec d t s ≡ go u
+      → Rel r captures′ out′ (record { starts = starts′ }) u
+
+-- the same without a byte
+pub record Begins (d : Command) (c : Context) (starts : List ℕ) (r : Context) (starts′ : List ℕ) : Type 0 where
+  pub begins : (captures out : List ℕ) → Opens Any d c captures starts out r captures starts′ out
+
+pub record Ends (d : Command) (c : Context) (starts : List ℕ) (r : Context) : Type 0 where
+  pub ends : (captures out : List ℕ) → Takes Any d c captures starts out r captures out
+
+-- the same where one more may be opened, and the table of starts stays
+pub record Grows (View : Turn → Type 0) (d : Command) (c : Context) (captures out : List ℕ) (r : Context) (captures′ out′ : List ℕ) : Type 0 where
+  pub grows : (t : Turn) (b : Beside) (s u : State) → View t → Shallow s → Rel c captures out b s → exec d t s ≡ go u → Rel r captures′ out′ b u
+
+-- the same without a byte
+pub record Widens (d : Command) (c r : Context) : Type 0 where
+  pub widens : (captures out : List ℕ) → Grows Any d c captures out r captures out
+
+pub record Sets (d : Command) (c r : Context) : Type 0 where
+  pub sets : (captures out : List ℕ) → Keeps Any d c captures out r captures out
+
+pub record SetsFor (View : Turn → Type 0) (d : Command) (c r : Context) : Type 0 where
+  pub sets : (captures out : List ℕ) → Keeps View d c captures out r captures out
+
+-- a text is appended
+pub record Pushes (text : List ℕ) (c : Context) (captures out : List ℕ) (r : Context) (captures′ out′ : List ℕ) : Type 0 where
+  pub pushes : (b : Beside) (s : State) → Rel c captures out b s → Rel r captures′ out′ b (push text s)
+
+-- the answer to a question
+pub record Tells (View : Turn → Type 0) (q : Test) (c : Context) (x : Bool) : Type 0 where
+  pub tells : (t : Turn) (captures out : List ℕ) (b : Beside) (s : State) (y : Bool) → View t → Rel c captures out b s → test q t s ≡ go y → y ≡ x

@@ -1,0 +1,421 @@
+// The state of a build by value, the machine's own in code: places, counts and flags. The bytes stand in lent buffers beside it.
+ghost use Prim.Native.Nat.{_^_, _<_};
+ghost use mathlib.Core.Path.{_≡_};
+ghost use mathlib.Core.Option.{none, some};
+ghost use Rattle.machine.specs.Set.{slurp, encode, raw, alt, head};
+ghost use Rattle.machine.specs.Test.{isTight, isInContainer, hasRank, hasSeenData, isFirstFence, isFencedOnce, isFenceMissing};
+ghost use Rattle.machine.specs.Command.{slice, buffer, drop, lineEnding, lineEndingIfNeeded, set, tighten, loosen, marker, forgetRank, fences, countFence, seenData};
+ghost use Rattle.context.specs.Rel.{Any, Sees, Keeps, Begins, Ends, Pushes, Sets, Widens, Tells, wider, fencedBy, answerOf};
+use buffers::Buffers;
+use character_reference::Marker;
+use event::Event;
+use machine::Ending;
+use machine::Flags;
+
+// A number that may not be known yet.
+pub enum Number {
+    Unset,
+    Is(usize),
+}
+
+// An answer that may not be known yet.
+pub enum Answer {
+    Unset,
+    Yes,
+    No,
+}
+
+// How many fences a code block has so far; outside of one it has none to count.
+pub enum Fences {
+    Outside,
+    Zero,
+    One,
+    More,
+}
+
+// The marker of a character reference, where one was seen.
+pub enum Mark {
+    Unset,
+    Is(Marker),
+}
+
+// What a later event of the same element asks for.
+pub struct Waiting {
+    pub rank: Number,
+    pub seen: Answer,
+    pub fences: Fences,
+    pub marker: Mark,
+    pub first: Answer,
+}
+
+// Which containers are tight: a bit each, the newest lowest.
+pub struct Tight {
+    pub bits: u64,
+    pub count: usize,
+}
+
+// The table that is open: its enter's extra field, and the column of the next cell.
+pub struct Table {
+    pub inside: bool,
+    pub extra: u64,
+    pub column: usize,
+}
+
+pub struct Context {
+    pub buffers: Buffers,
+    pub flags: Flags,
+    pub waiting: Waiting,
+    pub tight: Tight,
+    pub table: Table,
+    pub ending: Ending,
+}
+
+// ---- writing
+
+// Appends to the newest buffer.
+pub fn push(c: Context, captures: &mut [u8], out: &mut [u8], s: &[u8]) -> Context
+    ensures { λ r. ⌜ Pushes (now (s .entry)) c (now (captures .entry)) (now (out .entry)) r (now (captures .exit)) (now (out .exit)) ⌝ }
+{
+    let mut r = c;
+    r.buffers = buffers::push(c.buffers, captures, out, s);
+    r
+}
+
+pub fn line_ending(c: Context, captures: &mut [u8], out: &mut [u8]) -> Context
+    ensures { λ r. ⌜ Keeps Any lineEnding c (now (captures .entry)) (now (out .entry)) r (now (captures .exit)) (now (out .exit)) ⌝ }
+{
+    let mut r = c;
+    let ending = c.ending;
+    r.buffers = buffers::line_ending(c.buffers, ending, captures, out);
+    r
+}
+
+pub fn line_ending_if_needed(c: Context, captures: &mut [u8], out: &mut [u8]) -> Context
+    ensures { λ r. ⌜ Keeps Any lineEndingIfNeeded c (now (captures .entry)) (now (out .entry)) r (now (captures .exit)) (now (out .exit)) ⌝ }
+{
+    let mut r = c;
+    let ending = c.ending;
+    r.buffers = buffers::line_ending_if_needed(c.buffers, ending, captures, out);
+    r
+}
+
+// The event's slice of the text, encoded where the flag says so.
+pub fn push_slice(c: Context, text: &[u8], e: Event, captures: &mut [u8], out: &mut [u8]) -> Context
+    ensures { λ r. ⌜ Keeps (Sees (now (text .entry)) e) slice c (now (captures .entry)) (now (out .entry)) r (now (captures .exit)) (now (out .exit)) ⌝ }
+{
+    let from = e.from.0;
+    let to = e.to.0;
+    if to < from {
+        return c;
+    }
+    if text.len() < to {
+        return c;
+    }
+    let mut r = c;
+    let encoding = c.flags.encode;
+    r.buffers = buffers::push_encoded(c.buffers, captures, out, &text[from..to], encoding);
+    r
+}
+
+// Opens a capture.
+pub fn open(c: Context, starts: &mut [usize]) -> Context
+    ensures { λ r. ⌜ Begins buffer c (now (starts .entry)) r (now (starts .exit)) ⌝ }
+{
+    let mut r = c;
+    r.buffers = buffers::open(c.buffers, starts);
+    r
+}
+
+// Takes the newest capture off.
+pub fn drop(c: Context, starts: &[usize]) -> Context
+    ensures { λ r. ⌜ Ends drop c (now (starts .entry)) r ⌝ }
+{
+    let mut r = c;
+    r.buffers = buffers::drop(c.buffers, starts);
+    r
+}
+
+// ---- flags
+
+// Whether the next line ending is swallowed.
+pub fn set_slurp(c: Context, x: bool) -> Context
+    ensures { λ r. ⌜ Sets (set slurp x) c r ⌝ }
+{
+    let mut r = c;
+    r.flags.slurp = x;
+    r
+}
+
+// Whether HTML is encoded.
+pub fn set_encode(c: Context, x: bool) -> Context
+    ensures { λ r. ⌜ Sets (set encode x) c r ⌝ }
+{
+    let mut r = c;
+    r.flags.encode = x;
+    r
+}
+
+// Whether this is code text.
+pub fn set_raw(c: Context, x: bool) -> Context
+    ensures { λ r. ⌜ Sets (set raw x) c r ⌝ }
+{
+    let mut r = c;
+    r.flags.raw = x;
+    r
+}
+
+// Whether this is in the text of an image.
+pub fn set_alt(c: Context, x: bool) -> Context
+    ensures { λ r. ⌜ Sets (set alt x) c r ⌝ }
+{
+    let mut r = c;
+    r.flags.alt = x;
+    r
+}
+
+// Whether this is in the head of a table.
+pub fn set_head(c: Context, x: bool) -> Context
+    ensures { λ r. ⌜ Sets (set head x) c r ⌝ }
+{
+    let mut r = c;
+    r.flags.head = x;
+    r
+}
+
+// ---- containers
+
+// A container is opened.
+pub fn tighten(c: Context, x: bool) -> Context
+    ensures { λ r. ⌜ Widens (tighten x) c r ⌝ }
+{
+    let n = c.tight.count;
+    let old = c.tight.bits;
+    if 63 < n {
+        return c;
+    }
+    if 0x7FFF_FFFF_FFFF_FFFF < old {
+        return c;
+    }
+    with_container(c, x)
+}
+
+// The newest in the lowest bit.
+fn with_container(c: Context, x: bool) -> Context
+    requires { ⌜ (c .tight .bits < 2 ^ 63) × (c .tight .count < 64) ⌝ }
+    ensures { λ r. ⌜ r ≡ wider x c ⌝ }
+{
+    let mut r = c;
+    let count = c.tight.count + 1;
+    let bits = c.tight.bits * 2;
+    r.tight.count = count;
+    if x {
+        let odd = bits + 1;
+        r.tight.bits = odd;
+        return r;
+    }
+    r.tight.bits = bits;
+    r
+}
+
+// The newest container goes.
+pub fn loosen(c: Context) -> Context
+    ensures { λ r. ⌜ Sets loosen c r ⌝ }
+{
+    let mut r = c;
+    let n = c.tight.count;
+    if n == 0 {
+        return c;
+    }
+    let bits = c.tight.bits / 2;
+    let count = n - 1;
+    r.tight.bits = bits;
+    r.tight.count = count;
+    r
+}
+
+pub fn is_tight(c: Context) -> bool
+    ensures { λ r. ⌜ Tells Any isTight c r ⌝ }
+{
+    if c.tight.count == 0 {
+        return false;
+    }
+    c.tight.bits % 2 == 1
+}
+
+pub fn is_in_container(c: Context) -> bool
+    ensures { λ r. ⌜ Tells Any isInContainer c r ⌝ }
+{
+    c.tight.count != 0
+}
+
+// ---- what waits
+
+pub fn set_seen(c: Context, x: Answer) -> Context
+    ensures { λ r. ⌜ Sets (seenData (answerOf x)) c r ⌝ }
+{
+    let mut r = c;
+    let w = c.waiting;
+    let rank = w.rank;
+    let fences = w.fences;
+    let marker = w.marker;
+    let first = w.first;
+    let waiting = Waiting {
+        rank,
+        seen: x,
+        fences,
+        marker,
+        first,
+    };
+    r.waiting = waiting;
+    r
+}
+
+fn with_fences(c: Context, x: Fences) -> Context
+    ensures { λ r. ⌜ r ≡ fencedBy x c ⌝ }
+{
+    let mut r = c;
+    let w = c.waiting;
+    let rank = w.rank;
+    let seen = w.seen;
+    let marker = w.marker;
+    let first = w.first;
+    let waiting = Waiting {
+        rank,
+        seen,
+        fences: x,
+        marker,
+        first,
+    };
+    r.waiting = waiting;
+    r
+}
+
+// A fenced block begins.
+pub fn open_fences(c: Context) -> Context
+    ensures { λ r. ⌜ Sets (fences (some 0)) c r ⌝ }
+{
+    with_fences(c, Fences::Zero)
+}
+
+// It ends.
+pub fn end_fences(c: Context) -> Context
+    ensures { λ r. ⌜ Sets (fences none) c r ⌝ }
+{
+    with_fences(c, Fences::Outside)
+}
+
+pub fn set_marker(c: Context, x: Marker) -> Context
+    ensures { λ r. ⌜ Sets (marker x) c r ⌝ }
+{
+    let mut r = c;
+    let w = c.waiting;
+    let rank = w.rank;
+    let seen = w.seen;
+    let fences = w.fences;
+    let first = w.first;
+    let waiting = Waiting {
+        rank,
+        seen,
+        fences,
+        marker: Mark::Is(x),
+        first,
+    };
+    r.waiting = waiting;
+    r
+}
+
+pub fn forget_rank(c: Context) -> Context
+    ensures { λ r. ⌜ Sets forgetRank c r ⌝ }
+{
+    let mut r = c;
+    let w = c.waiting;
+    let seen = w.seen;
+    let fences = w.fences;
+    let marker = w.marker;
+    let first = w.first;
+    let waiting = Waiting {
+        rank: Number::Unset,
+        seen,
+        fences,
+        marker,
+        first,
+    };
+    r.waiting = waiting;
+    r
+}
+
+pub fn has_rank(c: Context) -> bool
+    ensures { λ r. ⌜ Tells Any hasRank c r ⌝ }
+{
+    let w = c.waiting;
+    let x = w.rank;
+    match x {
+        Number::Unset => false,
+        Number::Is(_) => true,
+    }
+}
+
+pub fn has_seen_data(c: Context) -> bool
+    ensures { λ r. ⌜ Tells Any hasSeenData c r ⌝ }
+{
+    let w = c.waiting;
+    let x = w.seen;
+    match x {
+        Answer::Unset => false,
+        Answer::Yes => true,
+        Answer::No => false,
+    }
+}
+
+pub fn is_first_fence(c: Context) -> bool
+    ensures { λ r. ⌜ Tells Any isFirstFence c r ⌝ }
+{
+    let w = c.waiting;
+    let x = w.fences;
+    match x {
+        Fences::Outside => false,
+        Fences::Zero => true,
+        Fences::One => false,
+        Fences::More => false,
+    }
+}
+
+pub fn is_fenced_once(c: Context) -> bool
+    ensures { λ r. ⌜ Tells Any isFencedOnce c r ⌝ }
+{
+    let w = c.waiting;
+    let x = w.fences;
+    match x {
+        Fences::Outside => false,
+        Fences::Zero => false,
+        Fences::One => true,
+        Fences::More => false,
+    }
+}
+
+pub fn is_fence_missing(c: Context) -> bool
+    ensures { λ r. ⌜ Tells Any isFenceMissing c r ⌝ }
+{
+    let w = c.waiting;
+    let x = w.fences;
+    match x {
+        Fences::Outside => false,
+        Fences::Zero => true,
+        Fences::One => true,
+        Fences::More => false,
+    }
+}
+
+// One fence more.
+pub fn count_fence(c: Context) -> Context
+    ensures { λ r. ⌜ Sets countFence c r ⌝ }
+{
+    let w = c.waiting;
+    let x = w.fences;
+    match x {
+        Fences::Outside => c,
+        Fences::Zero => with_fences(c, Fences::One),
+        Fences::One => with_fences(c, Fences::More),
+        Fences::More => c,
+    }
+}

@@ -1,0 +1,56 @@
+-- One after the other.
+use borrow.Author.Needs.{needs}
+use Rattle.on_flow.proofs.on_enter_raw_flow.Statement.{statement}
+use Rattle.on_flow.proofs.on_enter_raw_flow.Tie as tie
+use native.Mathlib.Omega.{arith}
+use Rattle.machine.specs.OnFlow.{onEnterRawFlow}
+use Rattle.context.proofs.Commands.{any, idle, sets, seq, puts, whether-yes, whether-no, met, unmet, told, tells-fence}
+
+set-seen-requires : tie.Need-set-seen-requires
+set-seen-requires c κs = search needs
+
+line-ending-if-needed-requires : tie.Need-line-ending-if-needed-requires
+line-ending-if-needed-requires c κs = search needs
+
+slice-aggregate-push : tie.Need-slice-aggregate-push
+slice-aggregate-push c = search needs
+
+push-requires : tie.Need-push-requires
+push-requires c κs = search needs
+
+open-fences-requires : tie.Need-open-fences-requires
+open-fences-requires c κs = search needs
+
+same-length : tie.Need-same-length
+same-length c =
+    let c2 = c .before .before .before .before .before in
+    let c1 = c2 .before .before .before .before .before .before .before .before in
+    omega (arith, (c2 .push .kept), (c1 .line-ending-if-needed .kept))
+
+same-length-2 : tie.Need-same-length-2
+same-length-2 c =
+    let c2 = c .before .before .before .before .before in
+    let c1 = c2 .before .before .before .before .before .before .before .before in
+    omega (arith, (c2 .push .kept), (c1 .line-ending-if-needed .kept))
+
+returns : tie.Need-returns
+unfolding onEnterRawFlow
+returns c =
+    let c4 = c in
+    let c3 = c4 .before .before .before .before .before in
+    let c2 = c3 .before .before .before .before .before .before .before .before in
+    let c1 = c2 .before .before .before in
+    seq (sets (c1 .set-seen .ensures)) (seq (c2 .line-ending-if-needed .ensures) (seq (puts (c3 .push .ensures)) (sets (c4 .open-fences .ensures))))
+
+pub on-enter-raw-flow-spec : {M : Type 1} → statement M
+on-enter-raw-flow-spec =
+    tie.close
+    (tie.spec
+    set-seen-requires
+    line-ending-if-needed-requires
+    slice-aggregate-push
+    push-requires
+    open-fences-requires
+    same-length
+    same-length-2
+    returns)

@@ -1,0 +1,35 @@
+-- One after the other.
+use borrow.Author.Needs.{needs}
+use Rattle.on_flow.proofs.on_exit_raw_flow_fence.Statement.{statement}
+use Rattle.on_flow.proofs.on_exit_raw_flow_fence.Tie as tie
+use native.Mathlib.Omega.{arith}
+use Rattle.machine.specs.OnFlow.{onExitRawFlowFence}
+use Rattle.context.proofs.Commands.{any, idle, sets, seq, puts, whether-yes, whether-no, met, unmet, told, tells-fence}
+
+end-opening-fence-requires : tie.Need-end-opening-fence-requires
+end-opening-fence-requires c κs = search needs
+
+count-fence-requires : tie.Need-count-fence-requires
+count-fence-requires c κs = search needs
+
+same-length : tie.Need-same-length
+same-length c =
+    let c1 = c .before .before .before .before .before in
+    omega (arith, (c1 .end-opening-fence .kept))
+
+same-length-2 : tie.Need-same-length-2
+same-length-2 c =
+    let c1 = c .before .before .before .before .before in
+    omega (arith, (c1 .end-opening-fence .kept))
+
+returns : tie.Need-returns
+unfolding onExitRawFlowFence
+returns c =
+    let c2 = c in
+    let c1 = c2 .before .before .before .before .before in
+    seq (c1 .end-opening-fence .ensures) (sets (c2 .count-fence .ensures))
+
+pub on-exit-raw-flow-fence-spec : {M : Type 1} → statement M
+on-exit-raw-flow-fence-spec =
+    tie.close
+    (tie.spec end-opening-fence-requires count-fence-requires same-length same-length-2 returns)

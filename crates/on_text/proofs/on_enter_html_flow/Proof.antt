@@ -1,0 +1,37 @@
+-- One after the other.
+use borrow.Author.Needs.{needs}
+use Rattle.on_text.proofs.on_enter_html_flow.Statement.{statement}
+use Rattle.on_text.proofs.on_enter_html_flow.Tie as tie
+use Rattle.machine.specs.OnText.{onEnterHtmlFlow}
+use native.Mathlib.Omega.{arith}
+use Rattle.machine.specs.OnText.{onEnterHtmlText}
+use Rattle.context.proofs.Commands.{any, idle, sets, seq, puts, narrow, whether-yes, whether-no, tells-flag, tells-html, tells-last, tells-behind}
+
+line-ending-if-needed-requires : tie.Need-line-ending-if-needed-requires
+line-ending-if-needed-requires c κs = search needs
+
+on-enter-html-text-requires : tie.Need-on-enter-html-text-requires
+on-enter-html-text-requires c κs = search needs
+
+same-length : tie.Need-same-length
+same-length c = search needs
+
+same-length-2 : tie.Need-same-length-2
+same-length-2 c = search needs
+
+returns : tie.Need-returns
+unfolding onEnterHtmlFlow onEnterHtmlText
+returns c =
+    let c2 = c in
+    let c1 = c2 .before .before .before .before .before in
+    seq (any (c1 .line-ending-if-needed .ensures)) ((c2 .on-enter-html-text .ensures) .sets _ _)
+
+pub on-enter-html-flow-spec : {M : Type 1} → statement M
+on-enter-html-flow-spec =
+    tie.close
+    (tie.spec
+    line-ending-if-needed-requires
+    on-enter-html-text-requires
+    same-length
+    same-length-2
+    returns)

@@ -1,0 +1,22 @@
+-- By the option.
+use borrow.Author.Needs.{needs}
+use Rattle.on_text.proofs.on_enter_html_text.Statement.{statement}
+use Rattle.on_text.proofs.on_enter_html_text.Tie as tie
+use Rattle.machine.specs.OnText.{onEnterHtmlText}
+use Rattle.context.proofs.Commands.{any, idle, sets, seq, puts, narrow, whether-yes, whether-no, tells-flag, tells-html, tells-last, tells-behind}
+
+set-encode-requires : tie.Need-set-encode-requires
+set-encode-requires c κs = search needs
+
+returns : tie.Need-returns
+unfolding onEnterHtmlText
+returns c =
+    let c1 = c in
+    record { sets = λ w o. whether-yes tells-html (search needs) (sets (c1 .set-encode .ensures)) }
+
+returns-2 : tie.Need-returns-2
+unfolding onEnterHtmlText
+returns-2 c = record { sets = λ w o. whether-no tells-html (search needs) idle }
+
+pub on-enter-html-text-spec : {M : Type 1} → statement M
+on-enter-html-text-spec = tie.close (tie.spec set-encode-requires returns returns-2)

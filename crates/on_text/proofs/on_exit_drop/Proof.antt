@@ -1,0 +1,17 @@
+-- One capture.
+use borrow.Author.Needs.{needs}
+use Rattle.on_text.proofs.on_exit_drop.Statement.{statement}
+use Rattle.on_text.proofs.on_exit_drop.Tie as tie
+use Rattle.machine.specs.OnMedia.{onExitDrop}
+
+drop-requires : tie.Need-drop-requires
+drop-requires c κs = search needs
+
+returns : tie.Need-returns
+unfolding onExitDrop
+returns c =
+    let c1 = c in
+    (c1 .drop .ensures)
+
+pub on-exit-drop-spec : {M : Type 1} → statement M
+on-exit-drop-spec = tie.close (tie.spec drop-requires returns)

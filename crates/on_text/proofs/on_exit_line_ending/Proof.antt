@@ -1,0 +1,76 @@
+-- By the flags, then by what stands before.
+use borrow.Author.Needs.{needs}
+use Rattle.on_text.proofs.on_exit_line_ending.Statement.{statement}
+use Rattle.on_text.proofs.on_exit_line_ending.Tie as tie
+use Rattle.machine.specs.OnText.{onExitLineEnding}
+use Rattle.machine.specs.Set.{slurp, raw}
+use Rattle.context.proofs.Commands.{any, idle, sets, seq, puts, narrow, whether-yes, whether-no, tells-flag, tells-html, tells-last, tells-behind}
+
+slice-aggregate-push : tie.Need-slice-aggregate-push
+slice-aggregate-push c = search needs
+
+push-requires : tie.Need-push-requires
+push-requires c κs = search needs
+
+same-length : tie.Need-same-length
+same-length c = search needs
+
+same-length-2 : tie.Need-same-length-2
+same-length-2 c = search needs
+
+returns : tie.Need-returns
+unfolding onExitLineEnding
+returns c =
+    let c1 = c .before .before .before .before in
+    whether-yes (tells-flag raw) (search needs) (puts (c1 .push .ensures))
+
+set-slurp-requires : tie.Need-set-slurp-requires
+set-slurp-requires c κs = search needs
+
+returns-2 : tie.Need-returns-2
+unfolding onExitLineEnding
+returns-2 c =
+    let c1 = c in
+    whether-no (tells-flag raw) (search needs) (whether-yes (tells-flag slurp) (search needs) (sets (c1 .set-slurp .ensures)))
+
+set-slurp-requires-2 : tie.Need-set-slurp-requires-2
+set-slurp-requires-2 c κs = search needs
+
+returns-3 : tie.Need-returns-3
+unfolding onExitLineEnding
+returns-3 c =
+    let c1 = c in
+    whether-no (tells-flag raw) (search needs) (whether-no (tells-flag slurp) (search needs) (whether-yes tells-behind (search needs) (sets (c1 .set-slurp2 .ensures))))
+
+push-slice-requires : tie.Need-push-slice-requires
+push-slice-requires c κs = search needs
+
+same-length-3 : tie.Need-same-length-3
+same-length-3 c = search needs
+
+same-length-4 : tie.Need-same-length-4
+same-length-4 c = search needs
+
+returns-4 : tie.Need-returns-4
+unfolding onExitLineEnding
+returns-4 c =
+    let c1 = c .before .before .before .before in
+    whether-no (tells-flag raw) (search needs) (whether-no (tells-flag slurp) (search needs) (whether-no tells-behind (search needs) (narrow (λ t v. v .sees) (c1 .push-slice .ensures))))
+
+pub on-exit-line-ending-spec : {M : Type 1} → statement M
+on-exit-line-ending-spec =
+    tie.close
+    (tie.spec
+    slice-aggregate-push
+    push-requires
+    same-length
+    same-length-2
+    returns
+    set-slurp-requires
+    returns-2
+    set-slurp-requires-2
+    returns-3
+    push-slice-requires
+    same-length-3
+    same-length-4
+    returns-4)

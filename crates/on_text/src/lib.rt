@@ -1,0 +1,200 @@
+// Handlers of what stands in a line, by their Rust names.
+ghost use Rattle.machine.specs.OnText.{onEnterEmphasis, onExitEmphasis, onEnterStrong, onExitStrong, onExitBreak, onExitHtml, onEnterHtmlText, onEnterHtmlFlow, onExitHtmlData, onExitData, onExitCharacterReferenceMarker, onExitCharacterReferenceMarkerNumeric, onExitCharacterReferenceMarkerHexadecimal, onExitLineEnding, onExitBlankLineEnding, onEnterRawText};
+ghost use Rattle.machine.specs.OnMedia.{onEnterBuffer, onExitDrop};
+ghost use Rattle.machine.specs.Command.{tag};
+ghost use Rattle.context.specs.Rel.{Any, Sees, SeesEnding, HtmlAllowed, IsLast, Keeps, Opens, Begins, Ends, Sets, SetsFor};
+use character_reference::Marker;
+use context::Context;
+use event::Event;
+
+pub fn on_enter_emphasis(c: Context, captures: &mut [u8], out: &mut [u8]) -> Context
+    ensures { λ r. ⌜ Keeps Any onEnterEmphasis c (now (captures .entry)) (now (out .entry)) r (now (captures .exit)) (now (out .exit)) ⌝ }
+{
+    if c.flags.alt {
+        return c;
+    }
+    context::push(c, captures, out, b"<em>")
+}
+
+pub fn on_exit_emphasis(c: Context, captures: &mut [u8], out: &mut [u8]) -> Context
+    ensures { λ r. ⌜ Keeps Any onExitEmphasis c (now (captures .entry)) (now (out .entry)) r (now (captures .exit)) (now (out .exit)) ⌝ }
+{
+    if c.flags.alt {
+        return c;
+    }
+    context::push(c, captures, out, b"</em>")
+}
+
+pub fn on_enter_strong(c: Context, captures: &mut [u8], out: &mut [u8]) -> Context
+    ensures { λ r. ⌜ Keeps Any onEnterStrong c (now (captures .entry)) (now (out .entry)) r (now (captures .exit)) (now (out .exit)) ⌝ }
+{
+    if c.flags.alt {
+        return c;
+    }
+    context::push(c, captures, out, b"<strong>")
+}
+
+pub fn on_exit_strong(c: Context, captures: &mut [u8], out: &mut [u8]) -> Context
+    ensures { λ r. ⌜ Keeps Any onExitStrong c (now (captures .entry)) (now (out .entry)) r (now (captures .exit)) (now (out .exit)) ⌝ }
+{
+    if c.flags.alt {
+        return c;
+    }
+    context::push(c, captures, out, b"</strong>")
+}
+
+pub fn on_exit_break(c: Context, captures: &mut [u8], out: &mut [u8]) -> Context
+    ensures { λ r. ⌜ Keeps Any onExitBreak c (now (captures .entry)) (now (out .entry)) r (now (captures .exit)) (now (out .exit)) ⌝ }
+{
+    if c.flags.alt {
+        return c;
+    }
+    context::push(c, captures, out, b"<br />")
+}
+
+pub fn on_exit_html(c: Context) -> Context
+    ensures { λ r. ⌜ Sets onExitHtml c r ⌝ }
+{
+    context::set_encode(c, true)
+}
+
+// ---- html
+
+pub fn on_enter_html_text(c: Context, allowed: bool) -> Context
+    ensures { λ r. ⌜ SetsFor (HtmlAllowed allowed) onEnterHtmlText c r ⌝ }
+{
+    if allowed {
+        return context::set_encode(c, false);
+    }
+    c
+}
+
+pub fn on_enter_html_flow(c: Context, allowed: bool, captures: &mut [u8], out: &mut [u8]) -> Context
+    ensures { λ r. ⌜ Keeps (HtmlAllowed allowed) onEnterHtmlFlow c (now (captures .entry)) (now (out .entry)) r (now (captures .exit)) (now (out .exit)) ⌝ }
+{
+    let r = context::line_ending_if_needed(c, captures, out);
+    on_enter_html_text(r, allowed)
+}
+
+pub fn on_exit_html_data(
+    c: Context,
+    text: &[u8],
+    e: Event,
+    captures: &mut [u8],
+    out: &mut [u8],
+) -> Context
+    ensures { λ r. ⌜ Keeps (Sees (now (text .entry)) e) onExitHtmlData c (now (captures .entry)) (now (out .entry)) r (now (captures .exit)) (now (out .exit)) ⌝ }
+{
+    context::push_slice(c, text, e, captures, out)
+}
+
+// ---- data
+
+pub fn on_exit_data(
+    c: Context,
+    text: &[u8],
+    e: Event,
+    captures: &mut [u8],
+    out: &mut [u8],
+) -> Context
+    ensures { λ r. ⌜ Keeps (Sees (now (text .entry)) e) onExitData c (now (captures .entry)) (now (out .entry)) r (now (captures .exit)) (now (out .exit)) ⌝ }
+{
+    context::push_slice(c, text, e, captures, out)
+}
+
+pub fn on_exit_character_reference_marker(c: Context) -> Context
+    ensures { λ r. ⌜ Sets onExitCharacterReferenceMarker c r ⌝ }
+{
+    context::set_marker(c, Marker::Named)
+}
+
+pub fn on_exit_character_reference_marker_numeric(c: Context) -> Context
+    ensures { λ r. ⌜ Sets onExitCharacterReferenceMarkerNumeric c r ⌝ }
+{
+    context::set_marker(c, Marker::Decimal)
+}
+
+pub fn on_exit_character_reference_marker_hexadecimal(c: Context) -> Context
+    ensures { λ r. ⌜ Sets onExitCharacterReferenceMarkerHexadecimal c r ⌝ }
+{
+    context::set_marker(c, Marker::Hexadecimal)
+}
+
+// ---- line endings
+
+// One behind a definition is swallowed, as is one that a handler wants swallowed.
+pub fn on_exit_line_ending(
+    c: Context,
+    text: &[u8],
+    e: Event,
+    behind: bool,
+    captures: &mut [u8],
+    out: &mut [u8],
+) -> Context
+    ensures { λ r. ⌜ Keeps (SeesEnding (now (text .entry)) e behind) onExitLineEnding c (now (captures .entry)) (now (out .entry)) r (now (captures .exit)) (now (out .exit)) ⌝ }
+{
+    if c.flags.raw {
+        return context::push(c, captures, out, b" ");
+    }
+    if c.flags.slurp {
+        return context::set_slurp(c, false);
+    }
+    if behind {
+        return context::set_slurp(c, false);
+    }
+    context::push_slice(c, text, e, captures, out)
+}
+
+pub fn on_exit_blank_line_ending(
+    c: Context,
+    last: bool,
+    captures: &mut [u8],
+    out: &mut [u8],
+) -> Context
+    ensures { λ r. ⌜ Keeps (IsLast last) onExitBlankLineEnding c (now (captures .entry)) (now (out .entry)) r (now (captures .exit)) (now (out .exit)) ⌝ }
+{
+    let r = context::set_slurp(c, false);
+    if last {
+        return context::line_ending_if_needed(r, captures, out);
+    }
+    r
+}
+
+// ---- captures
+
+pub fn on_enter_buffer(c: Context, starts: &mut [usize]) -> Context
+    ensures { λ r. ⌜ Begins onEnterBuffer c (now (starts .entry)) r (now (starts .exit)) ⌝ }
+{
+    context::open(c, starts)
+}
+
+pub fn on_exit_drop(c: Context, starts: &[usize]) -> Context
+    ensures { λ r. ⌜ Ends onExitDrop c (now (starts .entry)) r ⌝ }
+{
+    context::drop(c, starts)
+}
+
+// ---- code text
+
+// The tag: none in an image's text.
+fn open_code(c: Context, captures: &mut [u8], out: &mut [u8]) -> Context
+    ensures { λ r. ⌜ Keeps Any (tag "<code>") c (now (captures .entry)) (now (out .entry)) r (now (captures .exit)) (now (out .exit)) ⌝ }
+{
+    if c.flags.alt {
+        return c;
+    }
+    context::push(c, captures, out, b"<code>")
+}
+
+pub fn on_enter_raw_text(
+    c: Context,
+    captures: &mut [u8],
+    starts: &mut [usize],
+    out: &mut [u8],
+) -> Context
+    ensures { λ r. ⌜ Opens Any onEnterRawText c (now (captures .entry)) (now (starts .entry)) (now (out .entry)) r (now (captures .exit)) (now (starts .exit)) (now (out .exit)) ⌝ }
+{
+    let raw = context::set_raw(c, true);
+    let r = open_code(raw, captures, out);
+    context::open(r, starts)
+}
