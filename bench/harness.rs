@@ -3,8 +3,18 @@
 #[allow(dead_code)]
 #[path = "../tools/oracle/src/bundle.rs"]
 mod bundle;
+#[cfg(not(count))]
+mod checker;
+#[cfg(not(count))]
+#[allow(dead_code, unused_imports, unused_macros)]
+#[path = "../tools/oracle/src/export.rs"]
+mod export;
 #[path = "../tools/oracle/src/random.rs"]
 mod random;
+#[cfg(not(count))]
+#[allow(dead_code, unused_imports, unused_macros)]
+#[path = "../tools/oracle/src/record.rs"]
+mod record;
 
 use markdown::util::encode::encode;
 use markdown::util::sanitize_uri::sanitize;
@@ -198,6 +208,7 @@ fn main() {
     let file = std::env::args().nth(1).expect("usage: harness INSTRUCTIONS");
     print_table(&std::fs::read_to_string(file).expect("the file of instructions can be read"));
     print_reader();
+    checker::print_rows();
 }
 
 /// The largest bundle, read; and the same bytes copied and no more.

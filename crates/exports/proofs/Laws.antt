@@ -5,6 +5,9 @@ use Prim.Native.Nat.{ℕ}
 use lib.ListN.{length}
 use Rattle.bundle.specs.declared.Answer.{Answer}
 use Rattle.bundle.specs.Read.{numberOf, HasRead}
+use Rattle.checker.specs.declared.Checked.{Checked}
+use Rattle.checker.specs.Checked as Checked
+use Rattle.checker.specs.Checked.{checkOf}
 use Rattle.page.specs.declared.Written.{Written}
 use Rattle.page.specs.Written.{bytesOf, Wrote}
 use Rattle.exports.specs.Packed.{packed, HasNumber, Packs}
@@ -15,3 +18,6 @@ packs {result = result} {d = d} p q =
 
 pub numbers : {bundle t e u f : List ℕ} {a : Answer} {r : ℕ} → HasRead bundle t e u f a → r ≡ numberOf a → HasNumber bundle t e u f r
 numbers p q = record { answer = q ∙ ap numberOf (p .answer); text = p .text; events = p .events }
+
+pub checks : (text events : List ℕ) {c : Checked} {r : ℕ} → c ≡ checkOf text events → r ≡ Checked.numberOf c → r ≡ Checked.numberOf (checkOf text events)
+checks text events p q = q ∙ ap Checked.numberOf p

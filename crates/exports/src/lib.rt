@@ -4,6 +4,7 @@ ghost use mathlib.Core.Path.{_≡_};
 ghost use Rattle.lent.specs.Fill.{Filled};
 ghost use Rattle.encode.specs.Encode.{encodeOf};
 ghost use Rattle.sanitize_uri.specs.Url.{sanitizeOf};
+ghost use Rattle.checker.specs.Checked.{checkOf, numberOf};
 ghost use Rattle.exports.specs.Packed.{packed, HasNumber, Packs};
 
 // Escapes a text for HTML, encoding on.
@@ -37,6 +38,15 @@ pub extern "C" fn leaf_sanitize(url: &[u8], out: &mut [u8]) -> usize
     ensures { λ r. ⌜ Filled (now (out .entry)) 0 (sanitizeOf (now (url .entry))) (now (out .exit)) r ⌝ }
 {
     sanitize_uri::sanitize(url, out, 0)
+}
+
+// Whether a text and its events meet 01's rules; the answer is 01's number alone.
+#[no_mangle]
+pub extern "C" fn page_check(text: &[u8], events: &[u8]) -> u32
+    ensures { λ r. ⌜ r ≡ numberOf (checkOf (now (text .entry)) (now (events .entry))) ⌝ }
+{
+    let checked = page::check(text, events);
+    checker::number(checked)
 }
 
 // Reads a bundle; the answer is 01's number alone.

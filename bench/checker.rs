@@ -1,0 +1,94 @@
+// The checker beside the crate's `compile`, on the events of the same notes; and its worst case for refusal 7.
+use crate::export::export;
+use crate::record::{written, Record};
+use crate::{measure, Side};
+use markdown::to_html::compile;
+use markdown::{parser, CompileOptions, Constructs, ParseOptions};
+use std::hint::black_box;
+use std::time::Instant;
+
+extern "C" {
+    fn page_check(text: *const u8, n: usize, events: *const u8, m: usize) -> u32;
+}
+
+/// 01's number for a list: 0 is yes.
+fn check(text: &[u8], events: &[u8]) -> u32 {
+    unsafe { page_check(text.as_ptr(), text.len(), events.as_ptr(), events.len()) }
+}
+
+/// A block of each kind of note, to be repeated.
+const KINDS: [(&str, &str); 5] = [
+    ("plain", "The offset of the packet is set by the ground and is read again on the next pass over the station.\n\n"),
+    ("prose", "The *offset* of the `packet` is [set](https://example.com/a) by **the ground** & read &lt;again&gt;.\n\n"),
+    ("code", "```c\nif (offset < 0 && packet > 3) {\n    return \"again\";\n}\n```\n\n"),
+    ("lists", "1. set the offset\n2. read it\n   * again\n   * and *again*\n\ntext\n\n"),
+    ("tables", "| field | unit |\n|:--|--:|\n| offset | m |\n| rate[^a] | m/s |\n\n[^a]: on the ground\n\n"),
+];
+
+fn options() -> ParseOptions {
+    let constructs = Constructs {
+        gfm_footnote_definition: true,
+        gfm_label_start_footnote: true,
+        gfm_table: true,
+        ..Constructs::default()
+    };
+    ParseOptions { constructs, ..ParseOptions::default() }
+}
+
+/// Blocks up to a length, as many as the checker passes.
+fn note(block: &str, length: usize) -> (String, Vec<Record>) {
+    let mut count = length.div_ceil(block.len());
+    loop {
+        let note = block.repeat(count);
+        let records = export(&note).expect("the crate's parser takes the note");
+        if check(note.as_bytes(), &written(&records)) == 0 {
+            return (note, records);
+        }
+        count -= 1;
+    }
+}
+
+pub fn print_rows() {
+    println!("checker        note            bytes  events  ours us  compile us  ratio");
+    for (kind, block) in KINDS {
+        for length in [2_048, 16_384] {
+            let (note, records) = note(block, length);
+            let events = written(&records);
+            let parsed = parser::parse(&note, &options()).expect("only MDX has errors").0;
+            let (bytes, again) = (note.clone().into_bytes(), note.clone().into_bytes());
+            let mut ours: Side = Box::new(move || assert_eq!(check(black_box(&bytes), black_box(&events)), 0));
+            let mut theirs: Side = Box::new(move || {
+                black_box(compile(black_box(&parsed), black_box(&again), &CompileOptions::default()));
+            });
+            let (our_time, their_time, _) = measure(&mut ours, &mut theirs);
+            println!(
+                "checker        {kind:<14} {:>6}  {:>6}  {:>7.1}  {:>10.1}  {:>5.3}",
+                note.len(),
+                records.len(),
+                our_time / 1_000.0,
+                their_time / 1_000.0,
+                our_time / their_time
+            );
+        }
+    }
+    print_worst();
+}
+
+/// 128 definitions, and links that all mean the last one: labels of some 60,000 bytes that differ at their end.
+fn print_worst() {
+    let text = vec![b'a'; 64_000];
+    let mut records = Vec::new();
+    for k in 0..128 {
+        records.extend([Record::enter(53), Record::enter(54), Record::exit(54, k, 63_000), Record::exit(53, k, 63_000)]);
+    }
+    records.push(Record::enter(12));
+    for _ in 0..447 {
+        records.extend([45, 47, 48].map(Record::enter));
+        records.extend([48, 47, 45].map(|name| Record::exit(name, 127, 63_000)));
+    }
+    records.push(Record::exit(12, 0, 64_000));
+    let events = written(&records);
+    let start = Instant::now();
+    assert_eq!(check(&text, &events), 0);
+    println!("refusal 7, {} events, labels of 63,000 bytes: {:.3} s", records.len(), start.elapsed().as_secs_f64());
+}
