@@ -1,6 +1,4 @@
 // Runs the program `calls` on batches of requests and compares all that it writes with what the judge expects.
-use crate::judge;
-use crate::request::Request;
 use std::io::{Read, Write};
 use std::process::{Command, Stdio};
 use std::thread;
@@ -11,35 +9,34 @@ const BATCH: usize = 8 << 20;
 /// So many differences are shown.
 const SHOWN: usize = 10;
 
+/// A request as `calls` takes it, with the answer that the judge expects.
+pub trait Asked: Clone {
+    fn write(&self, to: &mut Vec<u8>);
+    fn expected(&self) -> Vec<u8>;
+    /// How many bytes it has, and how many are asked for.
+    fn size(&self) -> (usize, usize);
+    fn shown(&self) -> String;
+}
+
 /// The program under test, the batch that is being filled, and what was counted.
-pub struct Drive<'a> {
+pub struct Drive<'a, A> {
     program: &'a [&'a str],
-    batch: Vec<Request>,
+    batch: Vec<A>,
     filled: usize,
     pub asked: usize,
     pub differences: usize,
     /// the first request whose answer differs, then the smallest, each with its place in its batch
-    kept: Vec<(Request, usize)>,
-    pub labels: usize,
-    pub labels_by_crate: usize,
+    kept: Vec<(A, usize)>,
 }
 
-impl<'a> Drive<'a> {
+impl<'a, A: Asked> Drive<'a, A> {
     pub fn new(program: &'a [&'a str]) -> Self {
-        Drive {
-            program,
-            batch: Vec::new(),
-            filled: 0,
-            asked: 0,
-            differences: 0,
-            kept: Vec::new(),
-            labels: 0,
-            labels_by_crate: 0,
-        }
+        Drive { program, batch: Vec::new(), filled: 0, asked: 0, differences: 0, kept: Vec::new() }
     }
 
-    pub fn ask(&mut self, request: Request) {
-        self.filled += 32 + request.text.len() + 24 + request.room;
+    pub fn ask(&mut self, request: A) {
+        let (bytes, room) = request.size();
+        self.filled += 32 + bytes + 24 + room;
         self.batch.push(request);
         if self.filled > BATCH {
             self.finish_batch();
@@ -54,11 +51,7 @@ impl<'a> Drive<'a> {
         let mut rest = &came[..];
         self.asked += batch.len();
         for (k, request) in batch.iter().enumerate() {
-            if let Some(by_crate) = judge::label_by_crate(request) {
-                self.labels += 1;
-                self.labels_by_crate += by_crate as usize;
-            }
-            let wanted = judge::expected(request);
+            let wanted = request.expected();
             let last = k + 1 == batch.len();
             if rest.starts_with(&wanted) && (!last || rest.len() == wanted.len()) {
                 rest = &rest[wanted.len()..];
@@ -70,19 +63,18 @@ impl<'a> Drive<'a> {
         }
     }
 
-    fn keep(&mut self, request: &Request, place: usize) {
+    fn keep(&mut self, request: &A, place: usize) {
         self.kept.push((request.clone(), place));
-        self.kept[1..].sort_by_key(|(request, _)| (request.text.len(), request.room));
+        self.kept[1..].sort_by_key(|(request, _)| request.size());
         self.kept.truncate(SHOWN);
     }
 
     /// Shows what was kept. Each is asked again by itself: an answer of a wrong length makes those behind it differ too.
     pub fn show(&self) {
         for (request, place) in &self.kept {
-            let (op, options, room) = (request.op, request.options, request.room);
-            let wanted = judge::expected(request);
+            let wanted = request.expected();
             let came = run(self.program, std::slice::from_ref(request));
-            println!("op {op} options {options} room {room} text {}", escaped(&request.text));
+            println!("{}", request.shown());
             println!("    wanted {}", told(&wanted));
             println!("    came   {}", told(&came));
             if came == wanted {
@@ -93,7 +85,7 @@ impl<'a> Drive<'a> {
 }
 
 /// All that the program writes on these requests. It may end early: the missing answers show in the comparison.
-fn run(program: &[&str], batch: &[Request]) -> Vec<u8> {
+fn run<A: Asked>(program: &[&str], batch: &[A]) -> Vec<u8> {
     let mut input = Vec::new();
     for request in batch {
         request.write(&mut input);
@@ -136,7 +128,7 @@ fn told(answer: &[u8]) -> String {
     format!("number, value, second, edition, room, work {fields:?} output {}", escaped(&answer[24..]))
 }
 
-fn escaped(bytes: &[u8]) -> String {
+pub fn escaped(bytes: &[u8]) -> String {
     let shown = &bytes[..bytes.len().min(120)];
     let more = if shown.len() < bytes.len() { ".." } else { "" };
     format!("\"{}\"{more} ({} bytes)", shown.escape_ascii(), bytes.len())

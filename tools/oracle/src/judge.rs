@@ -54,7 +54,7 @@ fn identity(label: &str) -> String {
 }
 
 /// Document 01, read by itself: runs of blanks become one space, ends trimmed, ASCII letters in upper case.
-fn identity_by_01(label: &str) -> String {
+pub fn identity_by_01(label: &str) -> String {
     words(label).collect::<Vec<_>>().join(" ").to_ascii_uppercase()
 }
 

@@ -1,19 +1,34 @@
 // The crate markdown 1.0.0 as the judge: compares the proved program `calls` with it, and writes what the gate replays.
 mod bundle;
+mod check;
+mod checks;
+mod compile;
+mod corpus;
+mod damage;
 mod drive;
+mod edges;
+mod every;
+mod export;
 mod families;
+mod grammar;
 mod judge;
+mod lists;
+mod notes;
 mod random;
+mod record;
 mod references;
 mod request;
+mod table;
 mod vectors;
 
 use drive::Drive;
+use export::PageOptions;
 use families::LEAVES;
 use std::process::exit;
 use std::time::Instant;
 
-const USAGE: &str = "usage: oracle leaves PROGRAM WORDS... | oracle bundles PROGRAM WORDS... | oracle vectors DIR | oracle references";
+const USAGE: &str = "usage: oracle leaves|bundles|checks PROGRAM WORDS... | oracle vectors DIR | oracle references | \
+    oracle export|compile OPTIONS ENDING";
 
 fn main() {
     let words: Vec<String> = std::env::args().skip(1).collect();
@@ -21,8 +36,11 @@ fn main() {
     match words[..] {
         ["leaves", _, ..] => leaves(&words[1..]),
         ["bundles", _, ..] => bundles(&words[1..]),
+        ["checks", _, ..] => checks(&words[1..]),
         ["vectors", folder] => vectors::write(folder),
         ["references"] => references::print(),
+        ["export", bits, ending] => export::print(page_options(bits, ending)),
+        ["compile", bits, ending] => compile::print(page_options(bits, ending)),
         _ => {
             eprintln!("{USAGE}");
             exit(2)
@@ -30,9 +48,21 @@ fn main() {
     }
 }
 
+/// The two numbers as CALLS.md gives them: three bits, and 0 LF, 1 CR, 2 CR LF.
+fn page_options(bits: &str, ending: &str) -> PageOptions {
+    PageOptions { bits: bits.parse().expect("a number"), ending: ending.parse().expect("a number") }
+}
+
 /// Compares the reader with an independent reading of document 01.
 fn bundles(program: &[&str]) {
     if bundle::compare(program) > 0 {
+        exit(1);
+    }
+}
+
+/// Compares the checker with an independent reading of document 01.
+fn checks(program: &[&str]) {
+    if checks::compare(program) > 0 {
         exit(1);
     }
 }
@@ -44,7 +74,13 @@ fn leaves(program: &[&str]) {
     for family in &LEAVES {
         let began = Instant::now();
         let mut drive = Drive::new(program);
-        (family.requests)(&mut |request| drive.ask(request));
+        (family.requests)(&mut |request| {
+            if let Some(by_crate) = judge::label_by_crate(&request) {
+                labels += 1;
+                labels_by_crate += usize::from(by_crate);
+            }
+            drive.ask(request);
+        });
         drive.finish_batch();
         let seed = family.seed.map_or("none".to_string(), |seed| seed.to_string());
         println!(
@@ -56,8 +92,6 @@ fn leaves(program: &[&str]) {
         );
         drive.show();
         differences += drive.differences;
-        labels += drive.labels;
-        labels_by_crate += drive.labels_by_crate;
     }
     println!("identity: {labels} labels judged by document 01, {labels_by_crate} of them by the crate too");
     if differences > 0 {

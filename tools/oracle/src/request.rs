@@ -1,4 +1,6 @@
 // A request to the program `calls`, for the calls that take a text and a room.
+use crate::drive::{escaped, Asked};
+use crate::judge;
 
 pub const ESCAPE: u8 = 1;
 pub const SANITIZE: u8 = 2;
@@ -17,9 +19,9 @@ pub struct Request {
     pub room: usize,
 }
 
-impl Request {
+impl Asked for Request {
     /// Adds the header of 32 bytes and the text. The fields that these calls do not take are 0.
-    pub fn write(&self, to: &mut Vec<u8>) {
+    fn write(&self, to: &mut Vec<u8>) {
         let mut header = [0; 32];
         header[0] = self.op;
         header[1] = self.options;
@@ -27,5 +29,17 @@ impl Request {
         header[12..16].copy_from_slice(&(self.room as u32).to_le_bytes());
         to.extend(header);
         to.extend(&self.text);
+    }
+
+    fn expected(&self) -> Vec<u8> {
+        judge::expected(self)
+    }
+
+    fn size(&self) -> (usize, usize) {
+        (self.text.len(), self.room)
+    }
+
+    fn shown(&self) -> String {
+        format!("op {} options {} room {} text {}", self.op, self.options, self.room, escaped(&self.text))
     }
 }

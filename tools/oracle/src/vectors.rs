@@ -1,8 +1,13 @@
-// The fixed list that the gate replays: requests chosen from the families, and the crate's answers to them.
+// The fixed list that the gate replays: requests chosen from the families, with the judges' answers.
 use crate::bundle;
+use crate::checks;
+use crate::drive::Asked;
+use crate::edges;
 use crate::families::{Family, LEAVES};
 use crate::judge::{answer, expected};
+use crate::lists::{Ask, List};
 use crate::random::Random;
+use crate::record::{written, Record, LENGTH};
 use crate::request::{Request, CALLS, ESCAPE, IDENTITY};
 use std::collections::{BTreeMap, BTreeSet};
 
@@ -13,6 +18,19 @@ const TAKEN: [(&str, usize); 7] =
     [("table", 52), ("utf8", 50), ("short", 120), ("rooms", 50), ("schemes", 120), ("places", 25), ("random", 15)];
 /// The texts of these families are longer only seldom; the files should stay small.
 const LONGEST: usize = 400;
+/// The same for the checker: so many for each number, kind and name of the event at the refusal's place.
+const TAKEN_LISTS: [(&str, usize); 9] = [
+    ("fields", 1),
+    ("characters", 40),
+    ("slices", 25),
+    ("together", 2),
+    ("every", 7),
+    ("labels", 30),
+    ("grammar", 200),
+    ("damaged", 1),
+    ("corpus", 220),
+];
+const LONGEST_LIST: usize = 600;
 
 /// Writes the files `stdin` and `stdout`.
 pub fn write(folder: &str) {
@@ -28,8 +46,14 @@ pub fn write(folder: &str) {
         case.write(&mut stdin);
         stdout.extend(case.expected());
     }
-    println!("{} requests, {} bytes of stdin, {} bytes of stdout", requests.len() + bundles.len(), stdin.len(), stdout.len());
-    assert!(stdin.len() + stdout.len() < 2_500_000);
+    let lists = chosen_lists();
+    for list in &lists {
+        list.write(&mut stdin);
+        stdout.extend(list.expected());
+    }
+    let count = requests.len() + bundles.len() + lists.len();
+    println!("{count} requests, {} bytes of stdin, {} bytes of stdout", stdin.len(), stdout.len());
+    assert!(stdin.len() + stdout.len() < 3_500_000);
     std::fs::write(format!("{folder}/stdin"), stdin).expect("stdin can be written");
     std::fs::write(format!("{folder}/stdout"), stdout).expect("stdout can be written");
 }
@@ -61,15 +85,15 @@ fn some_of(family: &Family, count: usize, random: &mut Random) -> Vec<Request> {
             groups.entry((request.op, request.options, expected(&request)[0])).or_default().push(request);
         }
     });
-    let mut requests = Vec::new();
-    for group in groups.values() {
-        let mut picked = BTreeSet::new();
-        while picked.len() < count.min(group.len()) {
-            picked.insert(random.below(group.len()));
-        }
-        requests.extend(picked.into_iter().map(|k| group[k].clone()));
+    groups.values().flat_map(|group| some(group, count, random)).collect()
+}
+
+fn some<T: Clone>(group: &[T], count: usize, random: &mut Random) -> Vec<T> {
+    let mut picked = BTreeSet::new();
+    while picked.len() < count.min(group.len()) {
+        picked.insert(random.below(group.len()));
     }
-    requests
+    picked.into_iter().map(|k| group[k].clone()).collect()
 }
 
 /// The longest text, for two calls, and one byte too many for each, with a byte that is not UTF-8 for every other.
@@ -88,4 +112,69 @@ fn limits() -> Vec<Request> {
         requests.push(Request { op, options, text, room: 3 });
     }
     requests
+}
+
+/// The whole table, some of each other family, and each limit at, one below and one above.
+fn chosen_lists() -> Vec<List> {
+    let mut random = Random(SEED);
+    let mut chosen = Vec::new();
+    lists_of("table", &mut |list| chosen.push(list));
+    for (name, count) in TAKEN_LISTS {
+        let mut groups: BTreeMap<_, Vec<List>> = BTreeMap::new();
+        lists_of(name, &mut |list| {
+            if list.text.len() + list.events.len() <= LONGEST_LIST {
+                groups.entry(cause(&list)).or_default().push(list);
+            }
+        });
+        chosen.extend(groups.values().flat_map(|group| some(group, count, &mut random)));
+    }
+    chosen.extend(limit_lists());
+    for number in 0..=7 {
+        assert!(chosen.iter().any(|list| list.answer().0 == number), "no list gives {number}");
+    }
+    chosen
+}
+
+fn lists_of(name: &str, ask: Ask) {
+    let (_, lists) = checks::FAMILIES.iter().find(|family| family.0 == name).expect("the family is listed");
+    lists(ask);
+}
+
+/// The number, and the first two bytes of the event at its place: kind and name.
+fn cause(list: &List) -> (u32, Vec<u8>) {
+    let (number, place) = list.answer();
+    let event = list.events.iter().skip(place * LENGTH).take(2).filter(|_| number > 2);
+    (number, event.copied().collect())
+}
+
+/// Each limit of 01 at, one below and one above: text, events, open at once, both kinds of definitions. Then events that
+/// are no whole records, and 6 beside 5 and 7.
+fn limit_lists() -> Vec<List> {
+    let mut lists = Vec::new();
+    for length in [63_999, 64_000, 64_001] {
+        lists.push(List::new(vec![b'a'; length], &edges::path(&[12, 5], 0, length)));
+    }
+    let paragraphs = edges::repeated(&edges::path(&[12], 0, 1), 1_601);
+    for count in [3_199, 3_200, 3_201] {
+        lists.push(List::new("a", &paragraphs[..count]));
+    }
+    for length in [1, 19, 21, 39, 41] {
+        lists.push(List { text: b"a".to_vec(), events: written(&paragraphs)[..length].to_vec() });
+    }
+    for depth in [63, 64, 65] {
+        lists.push(List::new("a", &edges::path(&vec![20; depth], 0, 1)));
+        lists.push(List::new("a", &edges::path(&vec![0; depth], 0, 1)));
+    }
+    let definition = edges::path(&[53, 54], 0, 1);
+    let footnote = edges::path(&[63, 64, 65], 0, 1);
+    for (definitions, footnotes) in [(127, 0), (128, 0), (129, 0), (0, 63), (0, 64), (0, 65), (128, 64), (129, 65)] {
+        let all: Vec<Record> =
+            [edges::repeated(&footnote, footnotes), edges::repeated(&definition, definitions)].concat();
+        lists.push(List::new("a", &all));
+    }
+    let mut random = Random(SEED);
+    for numbers in [[5, 6], [6, 5], [6, 7], [7, 6]] {
+        lists.push(edges::breaking(&numbers, &mut random));
+    }
+    lists
 }
