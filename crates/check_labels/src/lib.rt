@@ -20,13 +20,13 @@ pub enum Labels {
 }
 
 // A part of an element: its slice, or the element has none.
-enum Part {
+pub enum Part {
     Slice(usize, usize),
     Nothing,
 }
 
 // What an event is on the way to an element's part: passed, with so many open behind it; the part, with its slice; or the element's exit.
-enum Turn {
+pub enum Turn {
     On(usize),
     Own(usize, usize),
     Out,

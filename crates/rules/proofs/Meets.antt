@@ -122,8 +122,8 @@ module _ (text events : List ℕ) where
       module _ (n : Nests (tagsOf events)) where
         module _ (l : Each events (SliceMeets events text)) where
           say-labels : CountsMeet (eventsOf events) → (a : Labels) → undefinedOf text events ≡ a → Says text events (afterLabels a Yes)
-          say-labels m L.Yes p = all-met (record { sizes = s; characters = c; fields = f; nests = n; slices = l; counts = m; labels = labels-meet text events .0 p })
-          say-labels m (L.At i) p = seventh s c f n l m (labels-break text events i p)
+          say-labels m L.Yes p = all-met (record { sizes = s; characters = c; fields = f; nests = n; slices = l; counts = m; labels = labels-meet text events p })
+          say-labels m (L.At i) p = seventh s c f n l m (labels-break text events i n p)
 
           say-counts : (a : Slices) → countsOf events ≡ a → Says text events (afterCounts a (fromLabels text events))
           unfolding fromLabels

@@ -1,10 +1,10 @@
--- 01's rules for a text and its events, as a reader has them: facts about events and their places, and no pass. Assumes nothing.
+-- 01's rules for a text and its events, as a reader has them: facts about events, their places and elements, and no pass. Assumes nothing.
 use mathlib.Core.Path.{_≡_}
 use mathlib.Core.Bool.{Bool, true, false, _||_}
 use mathlib.Core.List.{List, [], _∷_, _++_}
 use Prim.Native.Nat.{ℕ, _+_, _/_, _%_, _≤_, _<_}
 use lib.Dec.{eqb}
-use lib.ListN.{length, take, drop}
+use lib.ListN.{length, take}
 use Rattle.lent.specs.Bytes.{if_then_else_}
 use Rattle.utf8.specs.Utf8.{Characters}
 use Rattle.event.specs.declared.Event.{Event}
@@ -16,7 +16,8 @@ use Rattle.nesting.specs.Tag.{Tag, tagsOf, openBehind}
 use Rattle.nesting.specs.Nests.{Nests}
 use Rattle.check_fields.specs.Rules.{FieldsMeet}
 use Rattle.check_slices.specs.Slices.{isEnding, isItemValue, isLevel, isUnderline, part}
-use Rattle.check_labels.specs.Labels.{identities, soughtOf, isDefined}
+use Rattle.check_labels.specs.Labels.{identities, isDefined}
+use Rattle.rules.specs.Elements.{Forest, ElementAt, soughtIn}
 use Rattle.checker.specs.declared.Checked.{Checked}
 use Rattle.checker.specs.declared.Checked.the-variants.{Yes, WrongLength, NotUtf8, Field, Nested, Slice, Count, Label}
 use Rattle.checker.specs.Checked.{event}
@@ -84,10 +85,10 @@ pub record CountsMeet (es : List Event) : Type 0 where
 
 -- ---- 7: labels
 
--- what an event's element seeks is defined; behind are the events behind it
-pub record LabelMeets (text : List ℕ) (es : List Event) (e : Event) (behind : List Event) : Type 0 where
-  pub media : isEnter e ≡ true → named (45 ∷ 46 ∷ []) e ≡ true → isDefined text (identities 54 text es) (soughtOf behind) ≡ true
-  pub call : isEnter e ≡ true → named (62 ∷ []) e ≡ true → isDefined text (identities 65 text es) (soughtOf behind) ≡ true
+-- what the element that an event begins seeks is defined
+pub record LabelMeets (text : List ℕ) (es : List Event) (e : Event) (inside : Forest) : Type 0 where
+  pub media : isEnter e ≡ true → named (45 ∷ 46 ∷ []) e ≡ true → isDefined text (identities 54 text es) (soughtIn inside) ≡ true
+  pub call : isEnter e ≡ true → named (62 ∷ []) e ≡ true → isDefined text (identities 65 text es) (soughtIn inside) ≡ true
 
 -- ---- all of them
 
@@ -95,7 +96,7 @@ abbrev pub FieldMeets : (text events : List ℕ) → ℕ → Type 0
 FieldMeets text events k = FieldsMeet text (eventAt events k)
 
 abbrev pub LabelAt : (text events : List ℕ) → ℕ → Type 0
-LabelAt text events k = LabelMeets text (eventsOf events) (eventAt events k) (drop (k + 1) (eventsOf events))
+LabelAt text events k = (inside : Forest) → ElementAt (eventsOf events) k (eventAt events k) inside → LabelMeets text (eventsOf events) (eventAt events k) inside
 
 -- every event meets a rule
 abbrev pub Each : List ℕ → (ℕ → Type 0) → Type 0
