@@ -19,7 +19,7 @@ use Rattle.machine.specs.Turn.{Turn, justBefore, isAfterDefinition}
 use Rattle.machine.specs.Test.{Test, is, isBehindFence, isHtmlAllowed, isLast, isBehindDefinition, test}
 use Rattle.machine.specs.Command.{Command, nothing, _▸_, whether, put, tag, exec}
 use Rattle.context.specs.declared.Context.{Context}
-use Rattle.context.specs.Rel.{Beside, Rel, NoDeeper, Any, Keeps, Grows, Widens, Sets, Pushes, Tells, FenceBefore, HtmlAllowed, IsLast, Sees, SeesEnding, Opens, Begins}
+use Rattle.context.specs.Rel.{Beside, Rel, NoDeeper, Any, Keeps, Grows, Widens, Sets, Pushes, PushesTag, Tells, FenceBefore, HtmlAllowed, IsLast, Sees, SeesEnding, Opens, Begins}
 use Rattle.context.proofs.Laws.{pushed, same-as}
 
 -- ---- outcomes
@@ -92,6 +92,18 @@ module _ {View : Turn → Type 0} where
 
   pub tags : {text : String} {c r : Context} {w o w′ o′ : List ℕ} → c .flags .alt ≡ false → Pushes (bytes text) c w o r w′ o′ → Keeps View (tag text) c w o r w′ o′
   tags h k = whether-no tells-alt h (puts k)
+
+-- ---- tags
+
+module _ {text : List ℕ} {c : Context} {w o : List ℕ} where
+  pub untagged : c .flags .alt ≡ true → PushesTag text c w o c w o
+  untagged h = record { tags = λ name p. no-tag h }
+
+  pub tagged : {r : Context} {w′ o′ : List ℕ} → c .flags .alt ≡ false → Pushes text c w o r w′ o′ → PushesTag text c w o r w′ o′
+  tagged h k = record { tags = λ name p. tags h (rw p k) }
+
+pub tag-of : {View : Turn → Type 0} {name : String} {c r : Context} {w o w′ o′ : List ℕ} → PushesTag (bytes name) c w o r w′ o′ → Keeps View (tag name) c w o r w′ o′
+tag-of {name = name} k = any (k .tags name refl)
 
 -- ---- without a byte, and one more open
 

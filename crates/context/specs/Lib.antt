@@ -1,1 +1,2 @@
 pub mod Rel
+pub mod Private

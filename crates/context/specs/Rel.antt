@@ -3,20 +3,22 @@ use mathlib.Core.Path.{_≡_}
 use mathlib.Core.Bool.{Bool, true, false}
 use mathlib.Core.List.{List, [], _∷_}
 use mathlib.Core.Option.{Option, none, some}
-use Prim.Native.Nat.{ℕ, zero, suc, _+_, _*_, _/_, _%_, _^_, _≤_, _<_}
+use Prim.Native.Nat.{ℕ, zero, suc, _/_, _%_, _^_, _≤_, _<_}
 use lib.Dec.{eqb}
 use lib.ListN.{length}
-use Rattle.lent.specs.Bytes.{if_then_else_}
+use Prim.Native.String.{String}
+use Rattle.lent.specs.Bytes.{if_then_else_, bytes}
 use Rattle.event.specs.declared.Event.{Event}
 use Rattle.event.specs.Event.{named, alignmentsOf}
 use Rattle.character_reference.specs.declared.Marker.{Marker}
 use Rattle.machine.specs.State as State
-use Rattle.machine.specs.State.{State}
+use Rattle.machine.specs.State.{State, start}
+use Rattle.machine.specs.declared.Ending.{Ending}
 use Rattle.machine.specs.Outcome.{Outcome, stop, go}
 use Rattle.machine.specs.Buffers.{push}
 use Rattle.machine.specs.Turn.{Turn, justBefore, isAfterDefinition}
 use Rattle.machine.specs.Test.{Test, test}
-use Rattle.machine.specs.Command.{Command, exec}
+use Rattle.machine.specs.Command.{Command, tag, exec}
 use Rattle.buffers.specs.Stand.{Stand}
 use Rattle.context.specs.declared.Number.{Number}
 use Rattle.context.specs.declared.Number.the-variants as N
@@ -78,34 +80,6 @@ pub record Tightened (t : Tight) (a : List Bool) : Type 0 where
 -- what stands beside the captures and the page, and is not touched by handlers that are not lent it
 pub record Beside : Type 0 where
   pub starts : List ℕ
-
-abbrev pub bitOf : Bool → ℕ
-bitOf true = 1
-bitOf false = 0
-
--- one more container, x
-abbrev pub wider : Bool → Context → Context
-wider x c =
-    record {
-      buffers = c .buffers;
-      flags = c .flags;
-      waiting = c .waiting;
-      tight = record { bits = c .tight .bits * 2 + bitOf x; count = c .tight .count + 1 };
-      table = c .table;
-      ending = c .ending;
-    }
-
--- with other fences
-abbrev pub fencedBy : Fences → Context → Context
-fencedBy x c =
-    record {
-      buffers = c .buffers;
-      flags = c .flags;
-      waiting = record { rank = c .waiting .rank; seen = c .waiting .seen; fences = x; marker = c .waiting .marker; first = c .waiting .first };
-      tight = c .tight;
-      table = c .table;
-      ending = c .ending;
-    }
 
 -- in a table: the alignments that its enter's extra field holds
 abbrev pub enterOf : (extra : ℕ) → Event
@@ -199,6 +173,14 @@ pub record SetsFor (View : Turn → Type 0) (d : Command) (c r : Context) : Type
 -- a text is appended
 pub record Pushes (text : List ℕ) (c : Context) (captures out : List ℕ) (r : Context) (captures′ out′ : List ℕ) : Type 0 where
   pub pushes : (b : Beside) (s : State) → Rel c captures out b s → Rel r captures′ out′ b (push text s)
+
+-- a tag is, but for the text of an image
+pub record PushesTag (text : List ℕ) (c : Context) (captures out : List ℕ) (r : Context) (captures′ out′ : List ℕ) : Type 0 where
+  pub tags : (name : String) → bytes name ≡ text → Keeps Any (tag name) c captures out r captures′ out′
+
+-- the state before the first event is the machine's
+pub record Begun (ending : Ending) (r : Context) : Type 0 where
+  pub begun : (captures out : List ℕ) (b : Beside) → Rel r captures out b (start ending)
 
 -- the answer to a question
 pub record Tells (View : Turn → Type 0) (q : Test) (c : Context) (x : Bool) : Type 0 where

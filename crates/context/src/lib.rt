@@ -5,7 +5,8 @@ ghost use mathlib.Core.Option.{none, some};
 ghost use Rattle.machine.specs.Set.{slurp, encode, raw, alt, head};
 ghost use Rattle.machine.specs.Test.{isTight, isInContainer, hasRank, hasSeenData, isFirstFence, isFencedOnce, isFenceMissing};
 ghost use Rattle.machine.specs.Command.{slice, buffer, drop, lineEnding, lineEndingIfNeeded, set, tighten, loosen, marker, forgetRank, fences, countFence, seenData};
-ghost use Rattle.context.specs.Rel.{Any, Sees, Keeps, Begins, Ends, Pushes, Sets, Widens, Tells, wider, fencedBy, answerOf};
+ghost use Rattle.context.specs.Rel.{Any, Sees, Keeps, Begins, Ends, Pushes, PushesTag, Begun, Sets, Widens, Tells, answerOf};
+ghost use Rattle.context.specs.Private.{wider, fencedBy};
 use buffers::Buffers;
 use character_reference::Marker;
 use event::Event;
@@ -70,6 +71,46 @@ pub struct Context {
     pub ending: Ending,
 }
 
+// Before the first event.
+pub fn new(ending: Ending) -> Context
+    ensures { λ r. ⌜ Begun ending r ⌝ }
+{
+    let buffers = Buffers {
+        page: 0,
+        end: 0,
+        start: 0,
+        depth: 0,
+    };
+    let flags = Flags {
+        slurp: false,
+        encode: true,
+        raw: false,
+        alt: false,
+        head: false,
+    };
+    let waiting = Waiting {
+        rank: Number::Unset,
+        seen: Answer::Unset,
+        fences: Fences::Outside,
+        marker: Mark::Unset,
+        first: Answer::Unset,
+    };
+    let tight = Tight { bits: 0, count: 0 };
+    let table = Table {
+        inside: false,
+        extra: 0,
+        column: 0,
+    };
+    Context {
+        buffers,
+        flags,
+        waiting,
+        tight,
+        table,
+        ending,
+    }
+}
+
 // ---- writing
 
 // Appends to the newest buffer.
@@ -97,6 +138,16 @@ pub fn line_ending_if_needed(c: Context, captures: &mut [u8], out: &mut [u8]) ->
     let ending = c.ending;
     r.buffers = buffers::line_ending_if_needed(c.buffers, ending, captures, out);
     r
+}
+
+// A tag: none in the text of an image.
+pub fn push_tag(c: Context, captures: &mut [u8], out: &mut [u8], s: &[u8]) -> Context
+    ensures { λ r. ⌜ PushesTag (now (s .entry)) c (now (captures .entry)) (now (out .entry)) r (now (captures .exit)) (now (out .exit)) ⌝ }
+{
+    if c.flags.alt {
+        return c;
+    }
+    push(c, captures, out, s)
 }
 
 // The event's slice of the text, encoded where the flag says so.

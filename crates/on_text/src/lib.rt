@@ -1,7 +1,6 @@
 // Handlers of what stands in a line, by their Rust names.
 ghost use Rattle.machine.specs.OnText.{onEnterEmphasis, onExitEmphasis, onEnterStrong, onExitStrong, onExitBreak, onExitHtml, onEnterHtmlText, onEnterHtmlFlow, onExitHtmlData, onExitData, onExitCharacterReferenceMarker, onExitCharacterReferenceMarkerNumeric, onExitCharacterReferenceMarkerHexadecimal, onExitLineEnding, onExitBlankLineEnding, onEnterRawText};
 ghost use Rattle.machine.specs.OnMedia.{onEnterBuffer, onExitDrop};
-ghost use Rattle.machine.specs.Command.{tag};
 ghost use Rattle.context.specs.Rel.{Any, Sees, SeesEnding, HtmlAllowed, IsLast, Keeps, Opens, Begins, Ends, Sets, SetsFor};
 use character_reference::Marker;
 use context::Context;
@@ -10,46 +9,31 @@ use event::Event;
 pub fn on_enter_emphasis(c: Context, captures: &mut [u8], out: &mut [u8]) -> Context
     ensures { λ r. ⌜ Keeps Any onEnterEmphasis c (now (captures .entry)) (now (out .entry)) r (now (captures .exit)) (now (out .exit)) ⌝ }
 {
-    if c.flags.alt {
-        return c;
-    }
-    context::push(c, captures, out, b"<em>")
+    context::push_tag(c, captures, out, b"<em>")
 }
 
 pub fn on_exit_emphasis(c: Context, captures: &mut [u8], out: &mut [u8]) -> Context
     ensures { λ r. ⌜ Keeps Any onExitEmphasis c (now (captures .entry)) (now (out .entry)) r (now (captures .exit)) (now (out .exit)) ⌝ }
 {
-    if c.flags.alt {
-        return c;
-    }
-    context::push(c, captures, out, b"</em>")
+    context::push_tag(c, captures, out, b"</em>")
 }
 
 pub fn on_enter_strong(c: Context, captures: &mut [u8], out: &mut [u8]) -> Context
     ensures { λ r. ⌜ Keeps Any onEnterStrong c (now (captures .entry)) (now (out .entry)) r (now (captures .exit)) (now (out .exit)) ⌝ }
 {
-    if c.flags.alt {
-        return c;
-    }
-    context::push(c, captures, out, b"<strong>")
+    context::push_tag(c, captures, out, b"<strong>")
 }
 
 pub fn on_exit_strong(c: Context, captures: &mut [u8], out: &mut [u8]) -> Context
     ensures { λ r. ⌜ Keeps Any onExitStrong c (now (captures .entry)) (now (out .entry)) r (now (captures .exit)) (now (out .exit)) ⌝ }
 {
-    if c.flags.alt {
-        return c;
-    }
-    context::push(c, captures, out, b"</strong>")
+    context::push_tag(c, captures, out, b"</strong>")
 }
 
 pub fn on_exit_break(c: Context, captures: &mut [u8], out: &mut [u8]) -> Context
     ensures { λ r. ⌜ Keeps Any onExitBreak c (now (captures .entry)) (now (out .entry)) r (now (captures .exit)) (now (out .exit)) ⌝ }
 {
-    if c.flags.alt {
-        return c;
-    }
-    context::push(c, captures, out, b"<br />")
+    context::push_tag(c, captures, out, b"<br />")
 }
 
 pub fn on_exit_html(c: Context) -> Context
@@ -176,16 +160,6 @@ pub fn on_exit_drop(c: Context, starts: &[usize]) -> Context
 
 // ---- code text
 
-// The tag: none in an image's text.
-fn open_code(c: Context, captures: &mut [u8], out: &mut [u8]) -> Context
-    ensures { λ r. ⌜ Keeps Any (tag "<code>") c (now (captures .entry)) (now (out .entry)) r (now (captures .exit)) (now (out .exit)) ⌝ }
-{
-    if c.flags.alt {
-        return c;
-    }
-    context::push(c, captures, out, b"<code>")
-}
-
 pub fn on_enter_raw_text(
     c: Context,
     captures: &mut [u8],
@@ -195,6 +169,6 @@ pub fn on_enter_raw_text(
     ensures { λ r. ⌜ Opens Any onEnterRawText c (now (captures .entry)) (now (starts .entry)) (now (out .entry)) r (now (captures .exit)) (now (starts .exit)) (now (out .exit)) ⌝ }
 {
     let raw = context::set_raw(c, true);
-    let r = open_code(raw, captures, out);
+    let r = context::push_tag(raw, captures, out, b"<code>");
     context::open(r, starts)
 }

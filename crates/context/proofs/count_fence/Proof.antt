@@ -2,7 +2,7 @@
 use borrow.Author.Needs.{needs}
 use Rattle.context.proofs.count_fence.Statement.{statement}
 use Rattle.context.proofs.count_fence.Tie as tie
-use Rattle.context.proofs.Plain.{none-more, first-more, second-more, third-more}
+use Rattle.context.proofs.Awaited.{none-more, first-more, second-more, third-more}
 
 enum-told : tie.Need-enum-told
 enum-told c = search needs

@@ -2,7 +2,7 @@
 use borrow.Author.Needs.{needs}
 use Rattle.context.proofs.end_fences.Statement.{statement}
 use Rattle.context.proofs.end_fences.Tie as tie
-use Rattle.context.proofs.Plain.{ends-fences}
+use Rattle.context.proofs.Awaited.{ends-fences}
 
 with-fences-requires : tie.Need-with-fences-requires
 with-fences-requires c κs = search needs

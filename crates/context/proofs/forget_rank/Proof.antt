@@ -1,7 +1,7 @@
 -- No rank.
 use Rattle.context.proofs.forget_rank.Statement.{statement}
 use Rattle.context.proofs.forget_rank.Tie as tie
-use Rattle.context.proofs.Plain.{forgets}
+use Rattle.context.proofs.Awaited.{forgets}
 
 returns : tie.Need-returns
 returns c = search forgets

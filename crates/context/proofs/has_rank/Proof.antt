@@ -3,7 +3,7 @@ use borrow.Author.Needs.{needs}
 use Rattle.context.proofs.has_rank.Statement.{statement}
 use Rattle.context.proofs.has_rank.Tie as tie
 use Rattle.context.specs.declared.Number.the-variants.{Unset}
-use Rattle.context.proofs.Plain.{tells-rank, rank-known}
+use Rattle.context.proofs.Awaited.{tells-rank, rank-known}
 
 enum-told : tie.Need-enum-told
 enum-told c = search needs

@@ -3,7 +3,7 @@ use borrow.Author.Needs.{needs}
 use Rattle.context.proofs.has_seen_data.Statement.{statement}
 use Rattle.context.proofs.has_seen_data.Tie as tie
 use Rattle.context.specs.declared.Answer.the-variants.{Unset, Yes, No}
-use Rattle.context.proofs.Plain.{tells-seen}
+use Rattle.context.proofs.Awaited.{tells-seen}
 
 enum-told : tie.Need-enum-told
 enum-told c = search needs

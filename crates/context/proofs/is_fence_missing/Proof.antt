@@ -3,7 +3,7 @@ use borrow.Author.Needs.{needs}
 use Rattle.context.proofs.is_fence_missing.Statement.{statement}
 use Rattle.context.proofs.is_fence_missing.Tie as tie
 use Rattle.context.specs.declared.Fences.the-variants.{Outside, Zero, One, More}
-use Rattle.context.proofs.Plain.{tells-missing}
+use Rattle.context.proofs.Awaited.{tells-missing}
 
 enum-told : tie.Need-enum-told
 enum-told c = search needs

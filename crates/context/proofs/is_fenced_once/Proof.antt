@@ -3,7 +3,7 @@ use borrow.Author.Needs.{needs}
 use Rattle.context.proofs.is_fenced_once.Statement.{statement}
 use Rattle.context.proofs.is_fenced_once.Tie as tie
 use Rattle.context.specs.declared.Fences.the-variants.{Outside, Zero, One, More}
-use Rattle.context.proofs.Plain.{tells-once}
+use Rattle.context.proofs.Awaited.{tells-once}
 
 enum-told : tie.Need-enum-told
 enum-told c = search needs

@@ -1,7 +1,7 @@
 -- By the count.
 use Rattle.context.proofs.is_in_container.Statement.{statement}
 use Rattle.context.proofs.is_in_container.Tie as tie
-use Rattle.context.proofs.Plain.{in-container}
+use Rattle.context.proofs.Containers.{in-container}
 
 returns : tie.Need-returns
 returns c = search in-container

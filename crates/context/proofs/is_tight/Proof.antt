@@ -1,7 +1,7 @@
 -- None, or the lowest bit.
 use Rattle.context.proofs.is_tight.Statement.{statement}
 use Rattle.context.proofs.is_tight.Tie as tie
-use Rattle.context.proofs.Plain.{none-tight, newest-tight}
+use Rattle.context.proofs.Containers.{none-tight, newest-tight}
 
 returns : tie.Need-returns
 returns c = search none-tight

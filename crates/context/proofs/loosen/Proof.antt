@@ -2,7 +2,7 @@
 use borrow.Author.Needs.{needs}
 use Rattle.context.proofs.loosen.Statement.{statement}
 use Rattle.context.proofs.loosen.Tie as tie
-use Rattle.context.proofs.Plain.{loosens-none, loosens}
+use Rattle.context.proofs.Containers.{loosens-none, loosens}
 
 returns : tie.Need-returns
 returns c = search loosens-none

@@ -1,7 +1,7 @@
 -- One marker.
 use Rattle.context.proofs.set_marker.Statement.{statement}
 use Rattle.context.proofs.set_marker.Tie as tie
-use Rattle.context.proofs.Plain.{marked}
+use Rattle.context.proofs.Awaited.{marked}
 
 returns : tie.Need-returns
 returns c = search marked

@@ -1,7 +1,7 @@
 -- One answer.
 use Rattle.context.proofs.set_seen.Statement.{statement}
 use Rattle.context.proofs.set_seen.Tie as tie
-use Rattle.context.proofs.Plain.{sees}
+use Rattle.context.proofs.Awaited.{sees}
 
 returns : tie.Need-returns
 returns c = search sees

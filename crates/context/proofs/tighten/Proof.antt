@@ -2,7 +2,7 @@
 use borrow.Author.Needs.{needs}
 use Rattle.context.proofs.tighten.Statement.{statement}
 use Rattle.context.proofs.tighten.Tie as tie
-use Rattle.context.proofs.Plain.{widens, too-deep, too-wide}
+use Rattle.context.proofs.Containers.{widens, too-deep, too-wide}
 
 returns : tie.Need-returns
 returns c = search too-deep

@@ -2,7 +2,7 @@
 use borrow.Author.Needs.{needs}
 use Rattle.context.proofs.with_container.Statement.{statement}
 use Rattle.context.proofs.with_container.Tie as tie
-use Rattle.context.proofs.Plain.{wide-yes, wide-no}
+use Rattle.context.proofs.Containers.{wide-yes, wide-no}
 
 add-count : tie.Need-add-count
 add-count c = search needs

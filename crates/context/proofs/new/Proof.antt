@@ -1,0 +1,10 @@
+-- The relation holds before the first event.
+use Rattle.context.proofs.new.Statement.{statement}
+use Rattle.context.proofs.new.Tie as tie
+use Rattle.context.proofs.Start.{begins-so}
+
+returns : tie.Need-returns
+returns c = search begins-so
+
+pub new-spec : {M : Type 1} → statement M
+new-spec = tie.close (tie.spec returns)
