@@ -20,12 +20,10 @@ use Rattle.machine.specs.Test.{Test, is, isBehindFence, isHtmlAllowed, isLast, 
 use Rattle.machine.specs.Command.{Command, nothing, _▸_, whether, put, tag, exec}
 use Rattle.context.specs.declared.Context.{Context}
 use Rattle.context.specs.Rel.{Beside, Rel, NoDeeper, Any, Keeps, Grows, Widens, Sets, Pushes, PushesTag, Tells, FenceBefore, HtmlAllowed, IsLast, Sees, SeesEnding, Opens, Begins}
+use Rattle.context.proofs.Plain.{never}
 use Rattle.context.proofs.Laws.{pushed, same-as}
 
 -- ---- outcomes
-
-pub never : {X A : Type 0} {u : A} → stop ≡ go u → X
-never p = let z : _≡_ {A = ℕ} 0 1 = cc in absurd (omega arith)
 
 -- where the whole goes on, so does the first part, and the second from there
 pub first-goes : {A B : Type 0} (x : Outcome A) (f : A → Outcome B) (u : B) → (x >>= f) ≡ go u → (v : A) × (x ≡ go v) × (f v ≡ go u)

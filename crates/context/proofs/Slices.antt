@@ -27,7 +27,8 @@ use Rattle.buffers.specs.Stand.{Stand}
 use Rattle.context.specs.declared.Context.{Context}
 use Rattle.context.specs.Rel.{Beside, Rel, NoDeeper, Shallow, Any, Sees, Keeps, Takes, Opens, Begins, Ends}
 use Rattle.context.proofs.Laws.{withBuffers, rel-buffers, pushed, same-as, Elsewhere}
-use Rattle.context.proofs.Commands.{never, first-goes, no-deeper}
+use Rattle.context.proofs.Plain.{never}
+use Rattle.context.proofs.Commands.{first-goes, no-deeper}
 
 -- ---- the event's slice
 
