@@ -2,11 +2,12 @@
 use mathlib.Core.Path.{_≡_}
 use mathlib.Core.Bool.{Bool, true, false, _&&_}
 use mathlib.Core.List.{List, [], _∷_}
+use mathlib.Core.Option.{Option, none, some}
 use Prim.Native.Nat.{ℕ, _+_, _-_}
 use lib.Dec.{eqb, leb, ltb}
 use lib.ListN.{length}
 use Rattle.machine.specs.Outcome.{Outcome, stop, go, _>>=_, need}
-use Rattle.machine.specs.State.{State, Media, Call}
+use Rattle.machine.specs.State.{State, Media, Call, Destination, noDestination, own, defined}
 use Rattle.machine.specs.Turn.{Turn}
 use Rattle.machine.specs.Media.{Part, label, destination, title, ownOf}
 use Rattle.machine.specs.Test.{test}
@@ -41,6 +42,23 @@ abbrev pub ofNewest : (Media → ℕ) → List Media → ℕ
 ofNewest f [] = 0
 ofNewest f (m ∷ ms) = f m
 
+abbrev pub isUnset : {A : Type 0} → Option A → Bool
+isUnset none = true
+isUnset (some a) = false
+
+abbrev pub isNowhere : Destination → Bool
+isNowhere noDestination = true
+isNowhere (own b) = false
+isNowhere (defined k) = false
+
+-- nothing is known of a medium but whether it is an image
+abbrev pub isBare : Media → Bool
+isBare m = isUnset (m .labelId) && isUnset (m .label) && isUnset (m .referenceId) && isNowhere (m .destination) && isUnset (m .title)
+
+abbrev pub newestIsBare : List Media → Bool
+newestIsBare [] = true
+newestIsBare (m ∷ ms) = isBare m
+
 -- a command that is not made of others, where its turn is right
 abbrev pub fittingOnly : Outcome State → Outcome State
 fittingOnly stop = stop
@@ -50,7 +68,7 @@ abbrev pub one : (ordered : Bool) → Outcome State → Outcome State
 one true o = fittingOnly o
 one false o = stop
 
--- A part is held behind all that is held; a setext heading's text where nothing is.
+-- A part is held behind all that is held; a setext heading's text where nothing is; a medium is opened in one of which nothing is known.
 unfoldable pub within : Command → Turn → State → Outcome State
 within (c ▸ d) t s = within c t s >>= λ u. within d t u
 within (whether q c d) t s = test q t s >>= elim [ true ↦ within c t s | false ↦ within d t s ]
@@ -88,7 +106,7 @@ within columns t s = one true (exec columns t s)
 within noColumns t s = one true (exec noColumns t s)
 within nextColumn t s = one true (exec nextColumn t s)
 within firstColumn t s = one true (exec firstColumn t s)
-within (openMedia image) t s = one true (exec (openMedia image) t s)
+within (openMedia image) t s = one (newestIsBare (s .media)) (exec (openMedia image) t s)
 within closeMedia t s = one true (exec closeMedia t s)
 within (identify id) t s = one true (exec (identify id) t s)
 within leaveImage t s = one true (exec leaveImage t s)

@@ -14,6 +14,8 @@ use Rattle.machine.specs.Turn.{Turn}
 use Rattle.machine.specs.Test.{hasRank, hasSeenData, isFirstFence, isFencedOnce, isFenceMissing, has, test}
 use Rattle.machine.specs.Command.{Command, seenData, fences, countFence, marker, forgetRank, exec}
 use Rattle.character_reference.specs.declared.Marker.{Marker}
+use Rattle.bounded.specs.Within.{one, within}
+use Rattle.bounded.proofs.Bounds.{done}
 use Rattle.context.specs.declared.Number.{Number}
 use Rattle.context.specs.declared.Number.the-variants as N
 use Rattle.context.specs.declared.Fences.{Fences}
@@ -24,8 +26,8 @@ use Rattle.context.specs.declared.Answer.the-variants as A
 use Rattle.context.specs.declared.Waiting.{Waiting}
 use Rattle.context.specs.declared.Context.{Context}
 use Rattle.context.specs.Private.{fencedBy}
-use Rattle.context.specs.Rel.{Beside, Rel, NoDeeper, Any, Sets, Tells, Waits, Fenced, numberOf, answerOf}
-use Rattle.context.proofs.Plain.{never, stands, setting, level}
+use Rattle.context.specs.Rel.{Rel, Any, Sets, Tells, Waits, Fenced, numberOf, answerOf}
+use Rattle.context.proofs.Plain.{never, stands, setting}
 
 -- ---- what waits
 
@@ -33,13 +35,13 @@ abbrev withWaiting : Waiting → Context → Context
 withWaiting x c = record { buffers = c .buffers; flags = c .flags; waiting = x; tight = c .tight; table = c .table; ending = c .ending }
 
 waiting : {d : Command} {c : Context} (w : Waiting) (f : State → State)
-    → ((t : Turn) (s : State) → exec d t s ≡ go (f s))
+    → ((t : Turn) (s : State) → within d t s ≡ one true (go (f s)))
     → ((s : State) → Waits (c .waiting) (s .waiting) → Waits w (f s .waiting))
     → ((s : State) → (f s .page ≡ s .page) × (f s .captures ≡ s .captures) × (f s .flags ≡ s .flags) × (f s .tight ≡ s .tight) × (f s .table ≡ s .table) × (f s .ending ≡ s .ending))
     → Sets d c (withWaiting w c)
 waiting w f e k l =
     setting f e
-    (λ x o b s r.
+    (λ x o b s i r.
     let q = l s in
     record {
       stand = stands (r .stand) (q .0) (q .1);
@@ -49,25 +51,24 @@ waiting w f e k l =
       table = rw (q .4) (r .table);
       ending = r .ending ∙ sym (q .5);
     })
-    (λ s. level s (f s) (l s .1) (l s .3))
 
 pub sees : {c : Context} (x : Answer)
     → Sets (seenData (answerOf x)) c (withWaiting (record { rank = c .waiting .rank; seen = x; fences = c .waiting .fences; marker = c .waiting .marker; first = c .waiting .first }) c)
-unfolding exec
+unfolding exec within
 sees x =
     waiting _ (setSeen (answerOf x)) (λ t s. refl) (λ s w. record { rank = w .rank; seen = refl; fences = w .fences; marker = w .marker; first = w .first })
     (λ s. (refl, refl, refl, refl, refl, refl))
 
 pub marked : {c : Context} (m : Marker)
     → Sets (marker m) c (withWaiting (record { rank = c .waiting .rank; seen = c .waiting .seen; fences = c .waiting .fences; marker = M.Is m; first = c .waiting .first }) c)
-unfolding exec
+unfolding exec within
 marked m =
     waiting _ (setMarker (some m)) (λ t s. refl) (λ s w. record { rank = w .rank; seen = w .seen; fences = w .fences; marker = refl; first = w .first })
     (λ s. (refl, refl, refl, refl, refl, refl))
 
 pub forgets : {c : Context}
     → Sets forgetRank c (withWaiting (record { rank = N.Unset; seen = c .waiting .seen; fences = c .waiting .fences; marker = c .waiting .marker; first = c .waiting .first }) c)
-unfolding exec
+unfolding exec within
 forgets =
     waiting _ (setRank none) (λ t s. refl) (λ s w. record { rank = refl; seen = w .seen; fences = w .fences; marker = w .marker; first = w .first })
     (λ s. (refl, refl, refl, refl, refl, refl))
@@ -75,7 +76,7 @@ forgets =
 -- ---- fences
 
 fences-are : {c : Context} (x : Fences) (f : Option ℕ) → Fenced x f → Sets (fences f) c (fencedBy x c)
-unfolding exec
+unfolding exec within
 fences-are x f h =
     waiting _ (setFences f) (λ t s. refl) (λ s w. record { rank = w .rank; seen = w .seen; fences = h; marker = w .marker; first = w .first })
     (λ s. (refl, refl, refl, refl, refl, refl))
@@ -88,25 +89,24 @@ ends-fences p = rw p (fences-are F.Outside none tt)
 
 -- one more: where there is none to count the machine stops
 more-fences : {c : Context} (x : Fences) → ((n : ℕ) → Fenced (c .waiting .fences) (some n) → Fenced x (some (suc n))) → Sets countFence c (fencedBy x c)
-unfolding exec
-more-fences {c} x k = record { sets = λ w o. record { keeps = λ t b s u v r p. on (s .waiting .fences) w o b s u r p refl } }
+unfolding exec within
+more-fences {c} x k = record { sets = λ w o. record { keeps = λ t b s u v r p. on (s .waiting .fences) w o b s u r (done true (need (s .waiting .fences) >>= λ n. go (setFences (some (suc n)) s)) u p .went) refl } }
   where
-    on : (f : Option ℕ) (w o : List ℕ) (b : Beside) (s u : State) → Rel c w o b s → (need (s .waiting .fences) >>= λ n. go (setFences (some (suc n)) s)) ≡ go u → s .waiting .fences ≡ f → Rel (fencedBy x c) w o b u × NoDeeper s u
+    on : (f : Option ℕ) (w o b : List ℕ) (s u : State) → Rel c w o b s → (need (s .waiting .fences) >>= λ n. go (setFences (some (suc n)) s)) ≡ go u → s .waiting .fences ≡ f → Rel (fencedBy x c) w o b u
     on none w o b s u r p q = let z : stop ≡ go u = rw q at p in never z
     on (some n) w o b s u r p q =
         let e : setFences (some (suc n)) s ≡ u = (let z : go (setFences (some (suc n)) s) ≡ go u = rw q at p in cc) in
         let h : Fenced (c .waiting .fences) (some n) = rw q at (r .waits .fences) in
         let v = r .waits in
         rw (← e) (
-          record {
-            stand = stands (r .stand) refl refl;
-            flags = r .flags;
-            waits = record { rank = v .rank; seen = v .seen; fences = k n h; marker = v .marker; first = v .first };
-            tight = r .tight;
-            table = r .table;
-            ending = r .ending;
-          },
-          level s (setFences (some (suc n)) s) refl refl,
+        record {
+          stand = stands (r .stand) refl refl;
+          flags = r .flags;
+          waits = record { rank = v .rank; seen = v .seen; fences = k n h; marker = v .marker; first = v .first };
+          tight = r .tight;
+          table = r .table;
+          ending = r .ending;
+        }
         )
 
 module _ {c r : Context} where

@@ -18,10 +18,11 @@ use Rattle.machine.specs.Set.{Flag, alt, flagOf}
 use Rattle.machine.specs.Turn.{Turn, justBefore, isAfterDefinition}
 use Rattle.machine.specs.Test.{Test, is, isBehindFence, isHtmlAllowed, isLast, isBehindDefinition, test}
 use Rattle.machine.specs.Command.{Command, nothing, _▸_, whether, put, tag, exec}
+use Rattle.bounded.specs.Within.{within}
+use Rattle.bounded.proofs.Bounds.{done}
 use Rattle.context.specs.declared.Context.{Context}
-use Rattle.context.specs.Rel.{Beside, Rel, NoDeeper, Any, Keeps, Grows, Widens, Sets, Pushes, PushesTag, Tells, FenceBefore, HtmlAllowed, IsLast, Sees, SeesEnding, Opens, Begins}
+use Rattle.context.specs.Rel.{Rel, Any, Keeps, Sets, Pushes, PushesTag, Tells, FenceBefore, HtmlAllowed, IsLast, Sees, SeesEnding, Opens, Begins}
 use Rattle.context.proofs.Plain.{never}
-use Rattle.context.proofs.Laws.{pushed, same-as}
 
 -- ---- outcomes
 
@@ -30,52 +31,48 @@ pub first-goes : {A B : Type 0} (x : Outcome A) (f : A → Outcome B) (u : B) �
 first-goes stop f u p = let z : _≡_ {A = ℕ} 0 1 = cc in absurd (omega arith)
 first-goes (go v) f u p = (v, refl, p)
 
-pub no-deeper : {s v u : State} → NoDeeper s v → NoDeeper v u → NoDeeper s u
-no-deeper p q = record { captures = omega (arith, p .captures, q .captures); tight = omega (arith, p .tight, q .tight) }
-
 module _ {View : Turn → Type 0} where
   pub any : {d : Command} {c r : Context} {w o w′ o′ : List ℕ} → Keeps Any d c w o r w′ o′ → Keeps View d c w o r w′ o′
   any k = record { keeps = λ t b s u v x p. k .keeps t b s u (record {}) x p }
 
   pub idle : {c : Context} {w o : List ℕ} → Keeps View nothing c w o c w o
-  unfolding exec
-  idle = record { keeps = λ t b s u v x p. (let q : s ≡ u = cc in rw (← q) (x, record { captures = omega arith; tight = omega arith })) }
+  unfolding exec within
+  idle = record { keeps = λ t b s u v x p. (let w = done true (go s) u p .went in let q : s ≡ u = cc in rw (← q) x) }
 
   pub seq : {d e : Command} {c r q : Context} {w o w′ o′ w″ o″ : List ℕ} → Keeps View d c w o r w′ o′ → Keeps View e r w′ o′ q w″ o″ → Keeps View (d ▸ e) c w o q w″ o″
-  unfolding exec
+  unfolding exec within
   seq {d} {e} k l = record {
     keeps = λ t b s u v x p.
-        let f = first-goes (exec d t s) (λ y. exec e t y) u p in
-        let m = k .keeps t b s (f .0) v x (f .1) in
-        let n = l .keeps t b (f .0) u v (m .0) (f .2) in
-        (n .0, no-deeper (m .1) (n .1));
+        let f = first-goes (within d t s) (λ y. within e t y) u p in
+        l .keeps t b (f .0) u v (k .keeps t b s (f .0) v x (f .1)) (f .2);
   }
 
   module _ {q : Test} {d e : Command} {c r : Context} {w o w′ o′ : List ℕ} {x : Bool} where
     pub whether-yes : Tells View q c x → x ≡ true → Keeps View d c w o r w′ o′ → Keeps View (whether q d e) c w o r w′ o′
-    unfolding exec
+    unfolding exec within
     whether-yes a h k = record {
       keeps = λ t b s u v y p.
-          let f = first-goes (test q t s) (elim [ true ↦ exec d t s | false ↦ exec e t s ]) u p in
+          let f = first-goes (test q t s) (elim [ true ↦ within d t s | false ↦ within e t s ]) u p in
           let z : f .0 ≡ true = a .tells t w o b s (f .0) v y (f .1) ∙ h in
           k .keeps t b s u v y (rw z at (f .2));
     }
 
     pub whether-no : Tells View q c x → x ≡ false → Keeps View e c w o r w′ o′ → Keeps View (whether q d e) c w o r w′ o′
-    unfolding exec
+    unfolding exec within
     whether-no a h k = record {
       keeps = λ t b s u v y p.
-          let f = first-goes (test q t s) (elim [ true ↦ exec d t s | false ↦ exec e t s ]) u p in
+          let f = first-goes (test q t s) (elim [ true ↦ within d t s | false ↦ within e t s ]) u p in
           let z : f .0 ≡ false = a .tells t w o b s (f .0) v y (f .1) ∙ h in
           k .keeps t b s u v y (rw z at (f .2));
     }
 
   pub puts : {text : String} {c r : Context} {w o w′ o′ : List ℕ} → Pushes (bytes text) c w o r w′ o′ → Keeps View (put text) c w o r w′ o′
-  unfolding exec
+  unfolding exec within
   puts {text} k = record {
     keeps = λ t b s u v x p.
+        let w = done true (go (push (bytes text) s)) u p .went in
         let q : push (bytes text) s ≡ u = cc in
-        rw (← q) (k .pushes b s x, same-as (pushed (bytes text) s));
+        rw (← q) (k .pushes b s x);
   }
 
   -- ---- flags
@@ -103,22 +100,11 @@ module _ {text : List ℕ} {c : Context} {w o : List ℕ} where
 pub tag-of : {View : Turn → Type 0} {name : String} {c r : Context} {w o w′ o′ : List ℕ} → PushesTag (bytes name) c w o r w′ o′ → Keeps View (tag name) c w o r w′ o′
 tag-of {name = name} k = any (k .tags name refl)
 
--- ---- without a byte, and one more open
+-- ---- without a byte
 
 module _ {View : Turn → Type 0} where
   pub sets : {d : Command} {c r : Context} {w o : List ℕ} → Sets d c r → Keeps View d c w o r w o
   sets {w = w} {o = o} k = any (k .sets w o)
-
-  pub widens : {d : Command} {c r : Context} {w o : List ℕ} → Widens d c r → Grows View d c w o r w o
-  widens {w = w} {o = o} k = record { grows = λ t b s u v h x p. k .widens w o .grows t b s u (record {}) h x p }
-
-  pub grows-seq : {d e : Command} {c r q : Context} {w o w′ o′ w″ o″ : List ℕ} → Grows View d c w o r w′ o′ → Keeps View e r w′ o′ q w″ o″ → Grows View (d ▸ e) c w o q w″ o″
-  unfolding exec
-  grows-seq {d} {e} k l = record {
-    grows = λ t b s u v h x p.
-        let f = first-goes (exec d t s) (λ y. exec e t y) u p in
-        l .keeps t b (f .0) u v (k .grows t b s (f .0) v h x (f .1)) (f .2) .0;
-  }
 
 -- a test that is made the other way round
 pub unmet : {View : Turn → Type 0} {q : Test} {d e : Command} {c r : Context} {w o w′ o′ : List ℕ} {x : Bool} → Tells View q c x → not x ≡ true → Keeps View e c w o r w′ o′ → Keeps View (whether q d e) c w o r w′ o′
@@ -163,17 +149,12 @@ tells-behind = record { tells = λ t w o b s y v r p. (let q : isAfterDefinition
 
 module _ {View : Turn → Type 0} where
   pub begins : {d : Command} {c r : Context} {w o st st′ : List ℕ} → Begins d c st r st′ → Opens View d c w st o r w st′ o
-  begins {w = w} {o = o} k = record { opens = λ t s u v h l x p. k .begins w o .opens t s u (record {}) h l x p }
+  begins {w = w} {o = o} k = record { opens = λ t s u v l x p. k .begins w o .opens t s u (record {}) l x p }
 
   pub opens-last : {d e : Command} {c r q : Context} {w o st w′ o′ w″ o″ st″ : List ℕ} → Keeps View d c w o r w′ o′ → Opens View e r w′ st o′ q w″ st″ o″ → Opens View (d ▸ e) c w st o q w″ st″ o″
-  unfolding exec
+  unfolding within
   opens-last {d} {e} {st = st} k l = record {
-    opens = λ t s u v h n x p.
-        let f = first-goes (exec d t s) (λ y. exec e t y) u p in
-        let m = k .keeps t (record { starts = st }) s (f .0) v x (f .1) in
-        let a = m .1 .captures in
-        let b = m .1 .tight in
-        let h1 = h .captures in
-        let h2 = h .tight in
-        l .opens t (f .0) u v (record { captures = omega arith; tight = omega arith }) n (m .0) (f .2);
+    opens = λ t s u v n x p.
+        let f = first-goes (within d t s) (λ y. within e t y) u p in
+        l .opens t (f .0) u v n (k .keeps t st s (f .0) v x (f .1)) (f .2);
   }

@@ -14,10 +14,12 @@ use Rattle.machine.specs.Outcome.{go}
 use Rattle.machine.specs.Set.{setTight}
 use Rattle.machine.specs.Test.{isTight, isInContainer, tightOf, isEmpty, test}
 use Rattle.machine.specs.Command.{tighten, loosen, tail, exec}
+use Rattle.bounded.specs.Within.{fitting, within}
+use Rattle.bounded.proofs.Bounds.{fits}
 use Rattle.context.specs.declared.Tight.{Tight}
 use Rattle.context.specs.declared.Context.{Context}
 use Rattle.context.specs.Private.{bitOf, wider}
-use Rattle.context.specs.Rel.{Beside, Rel, Any, Shallow, Widens, Sets, Tells, Tightened, containers}
+use Rattle.context.specs.Rel.{Rel, Any, Sets, Tells, Tightened, containers}
 use Rattle.context.proofs.Plain.{stands, setting}
 
 -- ---- containers
@@ -25,16 +27,11 @@ use Rattle.context.proofs.Plain.{stands, setting}
 abbrev withTight : Tight → Context → Context
 withTight x c = record { buffers = c .buffers; flags = c .flags; waiting = c .waiting; tight = x; table = c .table; ending = c .ending }
 
-tail-shorter : (bs : List Bool) → length (tail bs) ≤ length bs
-tail-shorter [] = omega arith
-tail-shorter (b ∷ bs) = omega arith
-
 loosened : {c r : Context} → ((a : List Bool) → Tightened (c .tight) a → Tightened (r .tight) (tail a)) → r ≡ withTight (r .tight) c → Sets loosen c r
-unfolding exec
+unfolding exec within
 loosened {c} {r} h e =
     setting (λ s. setTight (tail (s .tight)) s) (λ t s. refl)
-    (λ w o b s x. (rw e (record { stand = stands (x .stand) refl refl; flags = x .flags; waits = x .waits; tight = h (s .tight) (x .tight); table = x .table; ending = x .ending })))
-    (λ s. record { captures = omega arith; tight = tail-shorter (s .tight) })
+    (λ w o b s i x. (rw e (record { stand = stands (x .stand) refl refl; flags = x .flags; waits = x .waits; tight = h (s .tight) (x .tight); table = x .table; ending = x .ending })))
 
 pub loosens-none : {c : Context} → c .tight .count ≡ 0 → Sets loosen c c
 loosens-none {c} z = loosened go refl
@@ -83,29 +80,28 @@ more-tight x t a h =
     }
 
 module _ {c : Context} (x : Bool) where
-  shallow-bits : (s : State) (w o : List ℕ) (b : Beside) → Shallow s → Rel c w o b s → (c .tight .count < 64) × (c .tight .bits < 2 ^ 63)
-  shallow-bits s w o b h r =
+  -- where the tables hold one more, there is a bit for it
+  room-for : (w o b : List ℕ) (s : State) → fitting (setTight (x ∷ s .tight) s) ≡ true → Rel c w o b s → (c .tight .count < 64) × (c .tight .bits < 2 ^ 63)
+  room-for w o b s f r =
       let n = r .tight .count in
       let p = r .tight .small in
-      let k = h .tight in
+      let k : suc (length (s .tight)) ≤ 64 = fits (setTight (x ∷ s .tight) s) f .tight in
       let m : c .tight .count ≤ 63 = omega arith in
       let q = pow-mono m in
       (omega arith, omega arith)
 
-  pub widens : {r : Context} → r ≡ wider x c → Widens (tighten x) c r
-  unfolding exec
-  widens e =
-      record {
-        widens = λ w o. record {
-          grows = λ t b s u v h r p. (let q : setTight (x ∷ s .tight) s ≡ u = cc in rw (← q, e) (record { stand = stands (r .stand) refl refl; flags = r .flags; waits = r .waits; tight = more-tight x (c .tight) (s .tight) (r .tight); table = r .table; ending = r .ending }));
-        };
-      }
+  tightening : {r : Context} → ((w o b : List ℕ) (s : State) → fitting (setTight (x ∷ s .tight) s) ≡ true → Rel c w o b s → Rel r w o b (setTight (x ∷ s .tight) s)) → Sets (tighten x) c r
+  unfolding exec within
+  tightening k = setting (λ s. setTight (x ∷ s .tight) s) (λ t s. refl) k
 
-  pub too-deep : 63 < c .tight .count → Widens (tighten x) c c
-  too-deep h = record { widens = λ w o. record { grows = λ t b s u v k r p. (let z = shallow-bits s w o b k r in absurd (omega (arith, z .0))) } }
+  pub widens : {r : Context} → r ≡ wider x c → Sets (tighten x) c r
+  widens e = tightening (λ w o b s f r. rw e (record { stand = stands (r .stand) refl refl; flags = r .flags; waits = r .waits; tight = more-tight x (c .tight) (s .tight) (r .tight); table = r .table; ending = r .ending }))
 
-  pub too-wide : 0x7FFF_FFFF_FFFF_FFFF < c .tight .bits → Widens (tighten x) c c
-  too-wide h = record { widens = λ w o. record { grows = λ t b s u v k r p. (let z = shallow-bits s w o b k r in absurd (omega (arith, z .1))) } }
+  pub too-deep : 63 < c .tight .count → Sets (tighten x) c c
+  too-deep h = tightening (λ w o b s f r. absurd (omega (arith, room-for w o b s f r .0)))
+
+  pub too-wide : 0x7FFF_FFFF_FFFF_FFFF < c .tight .bits → Sets (tighten x) c c
+  too-wide h = tightening (λ w o b s f r. absurd (omega (arith, room-for w o b s f r .1)))
 
 module _ {c : Context} where
   pub none-tight : c .tight .count ≡ 0 → Tells Any isTight c false

@@ -18,8 +18,10 @@ use Rattle.machine.specs.Command.{Command, nothing, _▸_, whether, put, lineEn
 use Rattle.buffers.specs.declared.Buffers.{Buffers}
 use Rattle.buffers.specs.Stand as Stand
 use Rattle.buffers.specs.Stand.{Stand, KeepsBy}
+use Rattle.bounded.specs.Within.{one, within}
+use Rattle.bounded.proofs.Bounds.{done}
 use Rattle.context.specs.declared.Context.{Context}
-use Rattle.context.specs.Rel.{Beside, Rel, NoDeeper, Any, Keeps, Pushes, Tells}
+use Rattle.context.specs.Rel.{Rel, Any, Keeps, Pushes, Tells}
 
 -- ---- the buffers alone
 
@@ -59,26 +61,23 @@ ended-if s = go (isEol (lastOr 10 (newestOf (s .page) (s .captures))))
     go false = ended s
 
 -- the buffers change, and nothing else
-pub rel-buffers : {c : Context} {captures out captures′ out′ : List ℕ} {b : Beside} {s u : State} {x : Buffers} → Rel c captures out b s → Elsewhere s u → Stand x captures′ (b .starts) out′ u → Rel (withBuffers x c) captures′ out′ b u
+pub rel-buffers : {c : Context} {captures out captures′ out′ : List ℕ} {b : List ℕ} {s u : State} {x : Buffers} → Rel c captures out b s → Elsewhere s u → Stand x captures′ b out′ u → Rel (withBuffers x c) captures′ out′ b u
 rel-buffers r e q = record { stand = q; flags = r .flags ∙ sym (e .flags); waits = rw (e .waiting) (r .waits); tight = rw (e .tight) (r .tight); table = rw (e .table) (r .table); ending = r .ending ∙ sym (e .ending) }
-
-pub same-as : {s u : State} → Elsewhere s u → NoDeeper s u
-same-as e = let c = e .captures in let t = ap length (e .tight) in record { captures = omega arith; tight = omega arith }
 
 -- ---- writing
 
 module _ (c : Context) (captures out : List ℕ) (x : Buffers) (captures′ out′ : List ℕ) where
   pub pushing : (t : List ℕ) → Stand.Keeps (push t) (c .buffers) captures out x captures′ out′ → Pushes t c captures out (withBuffers x c) captures′ out′
-  pushing t k = record { pushes = λ b s r. rel-buffers r (pushed t s) (k .keeps (b .starts) s (r .stand)) }
+  pushing t k = record { pushes = λ b s r. rel-buffers r (pushed t s) (k .keeps b s (r .stand)) }
 
   by-ending : (f : State → State) → ((s : State) → Elsewhere s (f s)) → KeepsBy (c .ending) f (c .buffers) captures out x captures′ out′
-      → (b : Beside) (s u : State) → Rel c captures out b s → go (f s) ≡ go u → Rel (withBuffers x c) captures′ out′ b u × NoDeeper s u
-  by-ending f e k b s u r p = let q : f s ≡ u = cc in rw (← q) (rel-buffers r (e s) (k .keeps (b .starts) s (r .ending) (r .stand)), same-as (e s))
+      → (b : List ℕ) (s u : State) → Rel c captures out b s → one true (go (f s)) ≡ go u → Rel (withBuffers x c) captures′ out′ b u
+  by-ending f e k b s u r p = let w = done true (go (f s)) u p .went in let q : f s ≡ u = cc in rw (← q) (rel-buffers r (e s) (k .keeps b s (r .ending) (r .stand)))
 
   pub ending : KeepsBy (c .ending) endLine (c .buffers) captures out x captures′ out′ → Keeps Any lineEnding c captures out (withBuffers x c) captures′ out′
-  unfolding exec
+  unfolding exec within
   ending k = record { keeps = λ t b s u a r p. by-ending endLine ended k b s u r p }
 
   pub ending-if : KeepsBy (c .ending) endLineIfNeeded (c .buffers) captures out x captures′ out′ → Keeps Any lineEndingIfNeeded c captures out (withBuffers x c) captures′ out′
-  unfolding exec
+  unfolding exec within
   ending-if k = record { keeps = λ t b s u a r p. by-ending endLineIfNeeded ended-if k b s u r p }

@@ -1,6 +1,6 @@
 -- What is set without a byte, and the flags. Assumes nothing.
 use mathlib.Core.Path.{_≡_, refl, ap}
-use mathlib.Core.Bool.{Bool}
+use mathlib.Core.Bool.{Bool, true}
 use mathlib.Core.List.{List}
 use Prim.Native.Nat.{ℕ, _-_}
 use native.Mathlib.Omega.{arith}
@@ -14,8 +14,10 @@ use Rattle.machine.specs.Test.{has}
 use Rattle.machine.specs.Command.{Command, set, exec}
 use Rattle.buffers.specs.declared.Buffers.{Buffers}
 use Rattle.buffers.specs.Stand.{Stand}
+use Rattle.bounded.specs.Within.{fitting, one, within}
+use Rattle.bounded.proofs.Bounds.{done}
 use Rattle.context.specs.declared.Context.{Context}
-use Rattle.context.specs.Rel.{Beside, Rel, NoDeeper, Sets}
+use Rattle.context.specs.Rel.{Rel, Sets}
 
 pub never : {X A : Type 0} {u : A} → stop ≡ go u → X
 never p = let z : _≡_ {A = ℕ} 0 1 = cc in absurd (omega arith)
@@ -26,19 +28,15 @@ stands h p q = record { page = rw p (h .page); flat-is = rw q (h .flat-is); dept
 
 -- a command that is a function of the state, and touches no byte
 pub setting : {d : Command} {c r : Context} (f : State → State)
-    → ((t : Turn) (s : State) → exec d t s ≡ go (f s))
-    → ((w o : List ℕ) (b : Beside) (s : State) → Rel c w o b s → Rel r w o b (f s))
-    → ((s : State) → NoDeeper s (f s))
+    → ((t : Turn) (s : State) → within d t s ≡ one true (go (f s)))
+    → ((w o b : List ℕ) (s : State) → fitting (f s) ≡ true → Rel c w o b s → Rel r w o b (f s))
     → Sets d c r
-setting f e k n =
+setting f e k =
     record {
       sets = λ w o. record {
-        keeps = λ t b s u v x p. (let g = e t s in let q : f s ≡ u = cc in rw (← q) (k w o b s x, n s));
+        keeps = λ t b s u v x p. (let g = done true (go (f s)) u (rw (e t s) at p) in let h = g .went in let q : f s ≡ u = cc in rw (← q) (k w o b s (rw (← q) at (g .fits)) x));
       };
     }
-
-pub level : (s u : State) → u .captures ≡ s .captures → u .tight ≡ s .tight → NoDeeper s u
-level s u p q = let a = ap length p in let b = ap length q in record { captures = omega arith; tight = omega arith }
 
 -- ---- flags
 
@@ -46,8 +44,7 @@ abbrev withFlags : Flags → Context → Context
 withFlags x c = record { buffers = c .buffers; flags = x; waiting = c .waiting; tight = c .tight; table = c .table; ending = c .ending }
 
 pub flag : {c : Context} (f : Flag) (x : Bool) → Sets (set f x) c (withFlags (withFlag f x (c .flags)) c)
-unfolding exec
+unfolding exec within
 flag f x =
     setting (setFlag f x) (λ t s. refl)
-    (λ w o b s r. record { stand = stands (r .stand) refl refl; flags = ap (withFlag f x) (r .flags); waits = r .waits; tight = r .tight; table = r .table; ending = r .ending })
-    (λ s. level s (setFlag f x s) refl refl)
+    (λ w o b s i r. record { stand = stands (r .stand) refl refl; flags = ap (withFlag f x) (r .flags); waits = r .waits; tight = r .tight; table = r .table; ending = r .ending })

@@ -24,11 +24,13 @@ use Rattle.machine.specs.Command.{Command, _▸_, slice, buffer, exec}
 use Rattle.buffers.specs.declared.Buffers.{Buffers}
 use Rattle.buffers.specs.Stand as Stand
 use Rattle.buffers.specs.Stand.{Stand}
+use Rattle.bounded.specs.Within.{one, within}
+use Rattle.bounded.proofs.Bounds.{done, fits}
 use Rattle.context.specs.declared.Context.{Context}
-use Rattle.context.specs.Rel.{Beside, Rel, NoDeeper, Shallow, Any, Sees, Keeps, Takes, Opens, Begins, Ends}
-use Rattle.context.proofs.Laws.{withBuffers, rel-buffers, pushed, same-as, Elsewhere}
+use Rattle.context.specs.Rel.{Rel, Any, Sees, Keeps, Takes, Opens, Begins, Ends}
+use Rattle.context.proofs.Laws.{withBuffers, rel-buffers, pushed, Elsewhere}
 use Rattle.context.proofs.Plain.{never}
-use Rattle.context.proofs.Commands.{first-goes, no-deeper}
+use Rattle.context.proofs.Commands.{first-goes}
 
 -- ---- the event's slice
 
@@ -59,36 +61,54 @@ sliced text e b p =
       bytes = sym (r .1) ∙ sym (q .1);
     }
 
+abbrev encoded : Turn → State → List ℕ → List ℕ
+encoded t s b = encodeOf (s .flags .encode) b
+
+is-slice : (t : Turn) (s : State) → within slice t s ≡ one true (ownStr t >>= λ b. go (push (encoded t s b) s))
+unfolding exec within pushEncoded
+is-slice t s = refl
+
 module _ (text : List ℕ) (e : Event) where
   own-slice : (t : Turn) (b : List ℕ) → Sees text e t → ownStr t ≡ go b → Sliced text e b
   own-slice t b v p = sliced text e b (rw (v .text-is, v .event-is) at p)
 
-  module _ {c : Context} {w o : List ℕ} where
-    nowhere : ((b : List ℕ) → Sliced text e b → ⊥) → Keeps (Sees text e) slice c w o c w o
-    unfolding exec
-    nowhere z = record {
-      keeps = λ t b s u v x p. (let f = first-goes (ownStr t) (λ a. go (pushEncoded a s)) u p in absurd (z (f .0) (own-slice t (f .0) v (f .1))));
+  module _ (d : Command) (f : Turn → State → List ℕ → List ℕ) (is : (t : Turn) (s : State) → within d t s ≡ one true (ownStr t >>= λ b. go (push (f t s b) s))) where
+    -- a command that appends what it makes of the event's slice: there is one, and this is appended
+    owned : (t : Turn) (s u : State) → Sees text e t → within d t s ≡ go u → (b : List ℕ) × Sliced text e b × (push (f t s b) s ≡ u)
+    owned t s u v p =
+        let q = done true (ownStr t >>= λ b. go (push (f t s b) s)) u (rw (is t s) at p) .went in
+        let g = first-goes (ownStr t) (λ b. go (push (f t s b) s)) u q in
+        (g .0, own-slice t (g .0) v (g .1), cc-go (g .2))
+
+    nowhere : {c : Context} {w o : List ℕ} → ((b : List ℕ) → Sliced text e b → ⊥) → Keeps (Sees text e) d c w o c w o
+    nowhere z = record { keeps = λ t b s u v x p. (let g = owned t s u v p in absurd (z (g .0) (g .1))) }
+
+    pub owned-back : {c : Context} {w o : List ℕ} → e .to .0 < e .from .0 → Keeps (Sees text e) d c w o c w o
+    owned-back h = nowhere (λ b k. omega (arith, k .ordered))
+
+    pub owned-out : {c : Context} {w o : List ℕ} → length text < e .to .0 → Keeps (Sees text e) d c w o c w o
+    owned-out h = nowhere (λ b k. omega (arith, k .within))
+
+    pub owned-pushes : {c : Context} {w o : List ℕ} (g : List ℕ) → ((t : Turn) (s : State) → Sees text e t → c .flags ≡ s .flags → g ≡ f t s (take (e .to .0 - e .from .0) (drop (e .from .0) text))) → {x : Buffers} {w′ o′ : List ℕ} → Stand.Keeps (push g) (c .buffers) w o x w′ o′
+        → Keeps (Sees text e) d c w o (withBuffers x c) w′ o′
+    owned-pushes {c} g i {x} k = record {
+      keeps = λ t b s u v y p.
+          let q = owned t s u v p in
+          let j : g ≡ f t s (q .0) = i t s v (y .flags) ∙ ap (f t s) (sym (q .1 .bytes)) in
+          let h : push g s ≡ u = ap (λ (l : List ℕ). push l s) j ∙ q .2 in
+          rw (← h) (rel-buffers y (pushed g s) (k .keeps b s (y .stand)));
     }
 
+  module _ {c : Context} {w o : List ℕ} where
     pub slice-back : e .to .0 < e .from .0 → Keeps (Sees text e) slice c w o c w o
-    slice-back h = nowhere (λ b k. omega (arith, k .ordered))
+    slice-back h = owned-back slice encoded is-slice h
 
     pub slice-out : length text < e .to .0 → Keeps (Sees text e) slice c w o c w o
-    slice-out h = nowhere (λ b k. omega (arith, k .within))
+    slice-out h = owned-out slice encoded is-slice h
 
     pub slices : {x : Buffers} {w′ o′ : List ℕ} → Stand.Keeps (push (encodeOf (c .flags .encode) (take (e .to .0 - e .from .0) (drop (e .from .0) text)))) (c .buffers) w o x w′ o′
         → Keeps (Sees text e) slice c w o (withBuffers x c) w′ o′
-    unfolding exec pushEncoded
-    slices {x} k = record {
-      keeps = λ t b s u v y p.
-          let f = first-goes (ownStr t) (λ a. go (pushEncoded a s)) u p in
-          let d = encodeOf (c .flags .encode) (take (e .to .0 - e .from .0) (drop (e .from .0) text)) in
-          let g : pushEncoded (f .0) s ≡ u = cc-go (f .2) in
-          let q : d ≡ encodeOf (s .flags .encode) (f .0) =
-          ap₂ (λ (a : Bool) (l : List ℕ). encodeOf a l) (ap (λ (a : Flags). a .encode) (y .flags)) (sym (own-slice t (f .0) v (f .1) .bytes)) in
-          let h : push d s ≡ u = ap (λ (l : List ℕ). push l s) q ∙ g in
-          rw (← h) (rel-buffers y (pushed d s) (k .keeps (b .starts) s (y .stand)), same-as (pushed d s));
-    }
+    slices k = owned-pushes slice encoded is-slice (encodeOf (c .flags .encode) (take (e .to .0 - e .from .0) (drop (e .from .0) text))) (λ t s v i. rw i) k
 
 -- ---- captures
 
@@ -103,38 +123,38 @@ taken s u p = on (s .captures) refl
 
 module _ {c : Context} {starts : List ℕ} where
   pub begins : {x : Buffers} {starts′ : List ℕ} → Stand.Opens (c .buffers) starts x starts′ → Begins buffer c starts (withBuffers x c) starts′
-  unfolding exec openCapture
+  unfolding exec within openCapture
   begins {x} k = record {
     begins = λ w o. record {
-      opens = λ t s u v h l r p. (let q : openCapture s ≡ u = cc-go p in rw (← q) (record {
-        stand = k w o s (let n = h .captures in omega arith) (r .stand);
-        flags = r .flags;
-        waits = r .waits;
-        tight = r .tight;
-        table = r .table;
-        ending = r .ending;
-      }));
+      opens = λ t s u v l r p.
+          let d = done true (go (openCapture s)) u p in
+          let q : openCapture s ≡ u = cc-go (d .went) in
+          let n : suc (length (s .captures)) ≤ 64 = fits (openCapture s) (rw (← q) at (d .fits)) .captures in
+          rw (← q) (record {
+            stand = k w o s (omega arith) (r .stand);
+            flags = r .flags;
+            waits = r .waits;
+            tight = r .tight;
+            table = r .table;
+            ending = r .ending;
+          });
     };
   }
 
   pub ends : {x : Buffers} → Stand.Drops (c .buffers) starts x → Ends Command.drop c starts (withBuffers x c)
-  unfolding exec
+  unfolding exec within
   ends {x} k = record {
     ends = λ w o. record {
-      takes = λ t b s u v z l r p.
-          let f = taken s u p in
-          let n = ap length (f .2) in
-          rw (← f .3) (
-            record {
-              stand = rw z (k w o (f .0) (f .1) s (f .2) l (rw z at (r .stand)));
-              flags = r .flags;
-              waits = r .waits;
-              tight = r .tight;
-              table = r .table;
-              ending = r .ending;
-            },
-            record { captures = omega arith; tight = omega arith },
-          );
+      takes = λ t s u v l r p.
+          let f = taken s u (done true (takeCapture s >>= λ (b, v). go v) u p .went) in
+          rw (← f .3) (record {
+            stand = k w o (f .0) (f .1) s (f .2) l (r .stand);
+            flags = r .flags;
+            waits = r .waits;
+            tight = r .tight;
+            table = r .table;
+            ending = r .ending;
+          });
     };
   }
 
@@ -149,37 +169,30 @@ written f s u p = on (s .captures) refl
     on [] q = never (rw q at p)
     on (d ∷ ds) q = (d, ds, q, cc-go (rw q at p))
 
-left : (t : List ℕ) (ds : List (List ℕ)) (s : State) {w o : List ℕ} {b : Beside} {c : Context} {x : Buffers} {w′ o′ : List ℕ} → Rel c w o b s → Stand x w′ (b .starts) o′ (push t (setCaptures ds s)) → Rel (withBuffers x c) w′ o′ b (push t (setCaptures ds s))
+left : (t : List ℕ) (ds : List (List ℕ)) (s : State) {w o : List ℕ} {b : List ℕ} {c : Context} {x : Buffers} {w′ o′ : List ℕ} → Rel c w o b s → Stand x w′ b o′ (push t (setCaptures ds s)) → Rel (withBuffers x c) w′ o′ b (push t (setCaptures ds s))
 left t ds s r k =
     let e = pushed t (setCaptures ds s) in
     record { stand = k; flags = r .flags ∙ sym (e .flags); waits = rw (e .waiting) (r .waits); tight = rw (e .tight) (r .tight); table = rw (e .table) (r .table); ending = r .ending ∙ sym (e .ending) }
 
 module _ {View : Turn → Type 0} {c : Context} {starts w o w′ o′ : List ℕ} {x : Buffers} where
-  taking : {d : Command} (f : List ℕ → List ℕ) → ((t : Turn) (s u : State) → View t → (b : Beside) → Rel c w o b s → exec d t s ≡ go u → (takeCapture s >>= λ (b, v). go (push (f b) v)) ≡ go u)
+  pub taking : {d : Command} (f : List ℕ → List ℕ) → ((t : Turn) (s u : State) → View t → Rel c w o starts s → within d t s ≡ go u → (takeCapture s >>= λ (b, v). go (push (f b) v)) ≡ go u)
       → Stand.Resumes f (c .buffers) starts w o x w′ o′ → Takes View d c w starts o (withBuffers x c) w′ o′
   taking f e k = record {
-    takes = λ t b s u v z l r p.
-        let g = written f s u (e t s u v b r p) in
-        let n = ap length (g .2) in
-        let m = pushed (f (g .0)) (setCaptures (g .1) s) in
-        let a = m .captures in
-        let h = ap length (m .tight) in
-        let k′ : Stand.Resumes f (c .buffers) (b .starts) w o x w′ o′ = rw z k in
-        rw (← g .3) (left (f (g .0)) (g .1) s r (k′ (g .0) (g .1) s (g .2) l (r .stand)), record { captures = omega arith; tight = omega arith });
+    takes = λ t s u v l r p.
+        let g = written f s u (e t s u v r p) in
+        rw (← g .3) (left (f (g .0)) (g .1) s r (k (g .0) (g .1) s (g .2) l (r .stand)));
   }
 
   -- between two texts
   pub resumes : {p q : String} → Stand.Resumes (λ b. bytes p ++ b ++ bytes q) (c .buffers) starts w o x w′ o′ → Takes View (Command.resume p q) c w starts o (withBuffers x c) w′ o′
-  unfolding exec
-  resumes {p} {q} k = taking (λ b. bytes p ++ b ++ bytes q) (λ t s u v b r e. e) k
+  unfolding exec within
+  resumes {p} {q} k = taking (λ b. bytes p ++ b ++ bytes q) (λ t s u v r e. done true (takeCapture s >>= λ (b, v). go (push (bytes p ++ b ++ bytes q) v)) u e .went) k
 
 -- and then more
 pub takes-seq : {View : Turn → Type 0} {d e : Command} {c r q : Context} {starts w o w′ o′ w″ o″ : List ℕ} → Takes View d c w starts o r w′ o′ → Keeps View e r w′ o′ q w″ o″ → Takes View (d ▸ e) c w starts o q w″ o″
-unfolding exec
-takes-seq {d = d} {e = e} k l = record {
-  takes = λ t b s u v z n x p.
-      let f = first-goes (exec d t s) (λ y. exec e t y) u p in
-      let m = k .takes t b s (f .0) v z n x (f .1) in
-      let h = l .keeps t b (f .0) u v (m .0) (f .2) in
-      (h .0, no-deeper (m .1) (h .1));
+unfolding within
+takes-seq {d = d} {e = e} {starts = starts} k l = record {
+  takes = λ t s u v n x p.
+      let f = first-goes (within d t s) (λ y. within e t y) u p in
+      l .keeps t starts (f .0) u v (k .takes t s (f .0) v n x (f .1)) (f .2);
 }

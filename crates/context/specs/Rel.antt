@@ -18,7 +18,8 @@ use Rattle.machine.specs.Outcome.{Outcome, stop, go}
 use Rattle.machine.specs.Buffers.{push}
 use Rattle.machine.specs.Turn.{Turn, justBefore, isAfterDefinition}
 use Rattle.machine.specs.Test.{Test, test}
-use Rattle.machine.specs.Command.{Command, tag, exec}
+use Rattle.machine.specs.Command.{Command, tag}
+use Rattle.bounded.specs.Within.{within}
 use Rattle.buffers.specs.Stand.{Stand}
 use Rattle.context.specs.declared.Number.{Number}
 use Rattle.context.specs.declared.Number.the-variants as N
@@ -77,10 +78,6 @@ pub record Tightened (t : Tight) (a : List Bool) : Type 0 where
   pub bits : containers (t .count) (t .bits) ≡ a
   pub small : t .bits < 2 ^ t .count
 
--- what stands beside the captures and the page, and is not touched by handlers that are not lent it
-pub record Beside : Type 0 where
-  pub starts : List ℕ
-
 -- in a table: the alignments that its enter's extra field holds
 abbrev pub enterOf : (extra : ℕ) → Event
 enterOf extra = record { kind = 0; name = 57; before = 0; after = 0; from = record { 0 = 0 }; to = record { 0 = 0 }; extra = extra }
@@ -92,8 +89,8 @@ pub record Tabled (t : Table) (a : State.Table) : Type 0 where
   pub aligns : alignsOf t ≡ a .aligns
   pub column : t .column ≡ a .column
 
-pub record Rel (c : Context) (captures out : List ℕ) (b : Beside) (s : State) : Type 0 where
-  pub stand : Stand (c .buffers) captures (b .starts) out s
+pub record Rel (c : Context) (captures out starts : List ℕ) (s : State) : Type 0 where
+  pub stand : Stand (c .buffers) captures starts out s
   pub flags : c .flags ≡ s .flags
   pub waits : Waits (c .waiting) (s .waiting)
   pub tight : Tightened (c .tight) (s .tight)
@@ -101,16 +98,6 @@ pub record Rel (c : Context) (captures out : List ℕ) (b : Beside) (s : State) 
   pub ending : c .ending ≡ s .ending
 
 -- ---- what a function does
-
--- no deeper than before
-pub record NoDeeper (s u : State) : Type 0 where
-  pub captures : length (u .captures) ≤ length (s .captures)
-  pub tight : length (u .tight) ≤ length (s .tight)
-
--- one more of each has a place
-pub record Shallow (s : State) : Type 0 where
-  pub captures : length (s .captures) < 64
-  pub tight : length (s .tight) < 64
 
 -- any turn, and one in which this event of this text is handled
 pub record Any (t : Turn) : Type 0 where
@@ -135,44 +122,34 @@ pub record SeesEnding (text : List ℕ) (e : Event) (x : Bool) (t : Turn) : Type
   pub sees : Sees text e t
   pub behind-is : isAfterDefinition (t .before) ≡ x
 
--- where the machine goes on with a command, the code goes with it, and no deeper
+-- where the machine goes on with a command, the code goes with it
 pub record Keeps (View : Turn → Type 0) (d : Command) (c : Context) (captures out : List ℕ) (r : Context) (captures′ out′ : List ℕ) : Type 0 where
-  pub keeps : (t : Turn) (b : Beside) (s u : State) → View t → Rel c captures out b s → exec d t s ≡ go u → Rel r captures′ out′ b u × NoDeeper s u
+  pub keeps : (t : Turn) (starts : List ℕ) (s u : State) → View t → Rel c captures out starts s → within d t s ≡ go u → Rel r captures′ out′ starts u
 
 -- the same where no buffer lacks room: what takes a capture off needs its bytes
 pub record Takes (View : Turn → Type 0) (d : Command) (c : Context) (captures starts out : List ℕ) (r : Context) (captures′ out′ : List ℕ) : Type 0 where
-  pub takes : (t : Turn) (b : Beside) (s u : State) → View t → b .starts ≡ starts → c .buffers .end ≤ length captures → Rel c captures out b s → exec d t s ≡ go u
-      → Rel r captures′ out′ b u × NoDeeper s u
+  pub takes : (t : Turn) (s u : State) → View t → c .buffers .end ≤ length captures → Rel c captures out starts s → within d t s ≡ go u → Rel r captures′ out′ starts u
 
--- the same where one more may be opened, in the table of starts too
+-- the same with the table of starts, which has 64 places
 pub record Opens (View : Turn → Type 0) (d : Command) (c : Context) (captures starts out : List ℕ) (r : Context) (captures′ starts′ out′ : List ℕ) : Type 0 where
-  pub opens : (t : Turn) (s u : State) → View t → Shallow s → length starts ≡ 64 → Rel c captures out (record { starts = starts }) s → exec d t s ≡ go u
-      → Rel r captures′ out′ (record { starts = starts′ }) u
+  pub opens : (t : Turn) (s u : State) → View t → length starts ≡ 64 → Rel c captures out starts s → within d t s ≡ go u → Rel r captures′ out′ starts′ u
 
 -- the same without a byte
-pub record Begins (d : Command) (c : Context) (starts : List ℕ) (r : Context) (starts′ : List ℕ) : Type 0 where
-  pub begins : (captures out : List ℕ) → Opens Any d c captures starts out r captures starts′ out
-
-pub record Ends (d : Command) (c : Context) (starts : List ℕ) (r : Context) : Type 0 where
-  pub ends : (captures out : List ℕ) → Takes Any d c captures starts out r captures out
-
--- the same where one more may be opened, and the table of starts stays
-pub record Grows (View : Turn → Type 0) (d : Command) (c : Context) (captures out : List ℕ) (r : Context) (captures′ out′ : List ℕ) : Type 0 where
-  pub grows : (t : Turn) (b : Beside) (s u : State) → View t → Shallow s → Rel c captures out b s → exec d t s ≡ go u → Rel r captures′ out′ b u
-
--- the same without a byte
-pub record Widens (d : Command) (c r : Context) : Type 0 where
-  pub widens : (captures out : List ℕ) → Grows Any d c captures out r captures out
-
 pub record Sets (d : Command) (c r : Context) : Type 0 where
   pub sets : (captures out : List ℕ) → Keeps Any d c captures out r captures out
 
 pub record SetsFor (View : Turn → Type 0) (d : Command) (c r : Context) : Type 0 where
   pub sets : (captures out : List ℕ) → Keeps View d c captures out r captures out
 
+pub record Begins (d : Command) (c : Context) (starts : List ℕ) (r : Context) (starts′ : List ℕ) : Type 0 where
+  pub begins : (captures out : List ℕ) → Opens Any d c captures starts out r captures starts′ out
+
+pub record Ends (d : Command) (c : Context) (starts : List ℕ) (r : Context) : Type 0 where
+  pub ends : (captures out : List ℕ) → Takes Any d c captures starts out r captures out
+
 -- a text is appended
 pub record Pushes (text : List ℕ) (c : Context) (captures out : List ℕ) (r : Context) (captures′ out′ : List ℕ) : Type 0 where
-  pub pushes : (b : Beside) (s : State) → Rel c captures out b s → Rel r captures′ out′ b (push text s)
+  pub pushes : (starts : List ℕ) (s : State) → Rel c captures out starts s → Rel r captures′ out′ starts (push text s)
 
 -- a tag is, but for the text of an image
 pub record PushesTag (text : List ℕ) (c : Context) (captures out : List ℕ) (r : Context) (captures′ out′ : List ℕ) : Type 0 where
@@ -180,8 +157,8 @@ pub record PushesTag (text : List ℕ) (c : Context) (captures out : List ℕ) (
 
 -- the state before the first event is the machine's
 pub record Begun (ending : Ending) (r : Context) : Type 0 where
-  pub begun : (captures out : List ℕ) (b : Beside) → Rel r captures out b (start ending)
+  pub begun : (captures out starts : List ℕ) → Rel r captures out starts (start ending)
 
 -- the answer to a question
 pub record Tells (View : Turn → Type 0) (q : Test) (c : Context) (x : Bool) : Type 0 where
-  pub tells : (t : Turn) (captures out : List ℕ) (b : Beside) (s : State) (y : Bool) → View t → Rel c captures out b s → test q t s ≡ go y → y ≡ x
+  pub tells : (t : Turn) (captures out starts : List ℕ) (s : State) (y : Bool) → View t → Rel c captures out starts s → test q t s ≡ go y → y ≡ x

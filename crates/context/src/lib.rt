@@ -5,7 +5,7 @@ ghost use mathlib.Core.Option.{none, some};
 ghost use Rattle.machine.specs.Set.{slurp, encode, raw, alt, head};
 ghost use Rattle.machine.specs.Test.{isTight, isInContainer, hasRank, hasSeenData, isFirstFence, isFencedOnce, isFenceMissing};
 ghost use Rattle.machine.specs.Command.{slice, buffer, drop, lineEnding, lineEndingIfNeeded, set, tighten, loosen, marker, forgetRank, fences, countFence, seenData};
-ghost use Rattle.context.specs.Rel.{Any, Sees, Keeps, Begins, Ends, Pushes, PushesTag, Begun, Sets, Widens, Tells, answerOf};
+ghost use Rattle.context.specs.Rel.{Any, Sees, Keeps, Begins, Ends, Pushes, PushesTag, Begun, Sets, Tells, answerOf};
 ghost use Rattle.context.specs.Private.{wider, fencedBy};
 use buffers::Buffers;
 use character_reference::Marker;
@@ -237,7 +237,7 @@ pub fn set_head(c: Context, x: bool) -> Context
 
 // A container is opened.
 pub fn tighten(c: Context, x: bool) -> Context
-    ensures { λ r. ⌜ Widens (tighten x) c r ⌝ }
+    ensures { λ r. ⌜ Sets (tighten x) c r ⌝ }
 {
     let n = c.tight.count;
     let old = c.tight.bits;

@@ -4,7 +4,7 @@ ghost use mathlib.Core.Bool.{true};
 ghost use Rattle.machine.specs.Set.{slurp};
 ghost use Rattle.machine.specs.Test.{isFirstFence, isFencedOnce, isInContainer, isBehindFence, hasSeenData, isFenceMissing};
 ghost use Rattle.machine.specs.Command.{_▸_, when, unless, put, set, lineEnding, lineEndingIfNeeded};
-ghost use Rattle.context.specs.Rel.{Any, Keeps, Grows, Takes, FenceBefore};
+ghost use Rattle.context.specs.Rel.{Any, Keeps, Takes, FenceBefore};
 use context::Answer;
 use context::Context;
 
@@ -28,7 +28,7 @@ pub fn on_exit_paragraph(c: Context, captures: &mut [u8], out: &mut [u8]) -> Con
 }
 
 pub fn on_enter_block_quote(c: Context, captures: &mut [u8], out: &mut [u8]) -> Context
-    ensures { λ r. ⌜ Grows Any onEnterBlockQuote c (now (captures .entry)) (now (out .entry)) r (now (captures .exit)) (now (out .exit)) ⌝ }
+    ensures { λ r. ⌜ Keeps Any onEnterBlockQuote c (now (captures .entry)) (now (out .entry)) r (now (captures .exit)) (now (out .exit)) ⌝ }
 {
     let tight = context::tighten(c, false);
     let r = context::line_ending_if_needed(tight, captures, out);

@@ -3,7 +3,7 @@ use borrow.Author.Needs.{needs}
 use Rattle.on_flow.proofs.on_enter_block_quote.Statement.{statement}
 use Rattle.on_flow.proofs.on_enter_block_quote.Tie as tie
 use Rattle.machine.specs.OnFlow.{onEnterBlockQuote}
-use Rattle.context.proofs.Commands.{any, idle, sets, widens, seq, grows-seq, puts, whether-yes, whether-no}
+use Rattle.context.proofs.Commands.{any, idle, sets, seq, puts, whether-yes, whether-no}
 
 tighten-requires : tie.Need-tighten-requires
 tighten-requires c κs = search needs
@@ -29,7 +29,7 @@ returns c =
     let c3 = c .before .before .before .before in
     let c2 = c3 .before .before .before .before .before .before .before .before in
     let c1 = c2 .before .before .before in
-    grows-seq (widens (c1 .tighten .ensures)) (seq (c2 .line-ending-if-needed .ensures) (puts (c3 .push .ensures)))
+    seq (sets (c1 .tighten .ensures)) (seq (c2 .line-ending-if-needed .ensures) (puts (c3 .push .ensures)))
 
 pub on-enter-block-quote-spec : {M : Type 1} → statement M
 on-enter-block-quote-spec =
