@@ -3,7 +3,7 @@ use mathlib.Core.Path.{_≡_}
 use mathlib.Core.Bool.{Bool, true, false}
 use mathlib.Core.List.{List, [], _∷_}
 use mathlib.Core.Option.{Option, none, some}
-use Prim.Native.Nat.{ℕ, zero, suc, _/_, _%_, _^_, _≤_, _<_}
+use Prim.Native.Nat.{ℕ, zero, suc, min, _/_, _%_, _^_, _≤_, _<_}
 use lib.Dec.{eqb}
 use lib.ListN.{length}
 use Prim.Native.String.{String}
@@ -85,9 +85,10 @@ enterOf extra = record { kind = 0; name = 57; before = 0; after = 0; from = reco
 abbrev pub alignsOf : Table → Option (List ℕ)
 alignsOf t = if t .inside then some (alignmentsOf (enterOf (t .extra))) else none
 
+-- columns are counted up to 256: no table has more
 pub record Tabled (t : Table) (a : State.Table) : Type 0 where
   pub aligns : alignsOf t ≡ a .aligns
-  pub column : t .column ≡ a .column
+  pub column : t .column ≡ min 256 (a .column)
 
 pub record Rel (c : Context) (captures out starts : List ℕ) (s : State) : Type 0 where
   pub stand : Stand (c .buffers) captures starts out s
