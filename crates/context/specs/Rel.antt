@@ -3,8 +3,7 @@ use mathlib.Core.Path.{_≡_}
 use mathlib.Core.Bool.{Bool, true, false}
 use mathlib.Core.List.{List, [], _∷_}
 use mathlib.Core.Option.{Option, none, some}
-use Prim.Native.Nat.{ℕ, zero, suc, min, _/_, _%_, _^_, _≤_, _<_}
-use lib.Dec.{eqb}
+use Prim.Native.Nat.{ℕ, min, _≤_}
 use lib.ListN.{length}
 use Prim.Native.String.{String}
 use Rattle.lent.specs.Bytes.{if_then_else_, bytes}
@@ -20,6 +19,7 @@ use Rattle.machine.specs.Turn.{Turn, justBefore, isAfterDefinition}
 use Rattle.machine.specs.Test.{Test, test}
 use Rattle.machine.specs.Command.{Command, tag}
 use Rattle.bounded.specs.Within.{within}
+use Rattle.tight.specs.Tight.{Tightened}
 use Rattle.buffers.specs.Stand.{Stand}
 use Rattle.context.specs.declared.Number.{Number}
 use Rattle.context.specs.declared.Number.the-variants as N
@@ -30,7 +30,6 @@ use Rattle.context.specs.declared.Fences.the-variants as F
 use Rattle.context.specs.declared.Mark.{Mark}
 use Rattle.context.specs.declared.Mark.the-variants as M
 use Rattle.context.specs.declared.Waiting.{Waiting}
-use Rattle.context.specs.declared.Tight.{Tight}
 use Rattle.context.specs.declared.Table.{Table}
 use Rattle.context.specs.declared.Context.{Context}
 
@@ -67,16 +66,6 @@ pub record Waits (w : Waiting) (a : State.Waiting) : Type 0 where
   pub fences : Fenced (w .fences) (a .fences)
   pub marker : markOf (w .marker) ≡ a .marker
   pub first : answerOf (w .first) ≡ a .first
-
--- n containers, the newest in the lowest bit
-abbrev pub containers : ℕ → ℕ → List Bool
-containers zero bits = []
-containers (suc n) bits = eqb (bits % 2) 1 ∷ containers n (bits / 2)
-
-pub record Tightened (t : Tight) (a : List Bool) : Type 0 where
-  pub count : t .count ≡ length a
-  pub bits : containers (t .count) (t .bits) ≡ a
-  pub small : t .bits < 2 ^ t .count
 
 -- in a table: the alignments that its enter's extra field holds
 abbrev pub enterOf : (extra : ℕ) → Event

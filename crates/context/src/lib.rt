@@ -1,17 +1,17 @@
 // The state of a build by value, the machine's own in code: places, counts and flags. The bytes stand in lent buffers beside it.
-ghost use Prim.Native.Nat.{_^_, _<_};
 ghost use mathlib.Core.Path.{_≡_};
 ghost use mathlib.Core.Option.{none, some};
 ghost use Rattle.machine.specs.Set.{slurp, encode, raw, alt, head};
 ghost use Rattle.machine.specs.Test.{isTight, isInContainer, hasRank, hasSeenData, isFirstFence, isFencedOnce, isFenceMissing};
 ghost use Rattle.machine.specs.Command.{slice, buffer, drop, lineEnding, lineEndingIfNeeded, set, tighten, loosen, marker, forgetRank, fences, countFence, seenData};
 ghost use Rattle.context.specs.Rel.{Any, Sees, Keeps, Begins, Ends, Pushes, PushesTag, Begun, Sets, Tells, answerOf};
-ghost use Rattle.context.specs.Private.{wider, fencedBy};
+ghost use Rattle.context.specs.Private.{fencedBy};
 use buffers::Buffers;
 use character_reference::Marker;
 use event::Event;
 use machine::Ending;
 use machine::Flags;
+use tight::Tight;
 
 // A number that may not be known yet.
 pub enum Number {
@@ -49,12 +49,6 @@ pub struct Waiting {
     pub first: Answer,
 }
 
-// Which containers are tight: a bit each, the newest lowest.
-pub struct Tight {
-    pub bits: u64,
-    pub count: usize,
-}
-
 // The table that is open: its enter's extra field, and the column of the next cell.
 pub struct Table {
     pub inside: bool,
@@ -66,6 +60,7 @@ pub struct Context {
     pub buffers: Buffers,
     pub flags: Flags,
     pub waiting: Waiting,
+    // which containers are
     pub tight: Tight,
     pub table: Table,
     pub ending: Ending,
@@ -239,32 +234,8 @@ pub fn set_head(c: Context, x: bool) -> Context
 pub fn tighten(c: Context, x: bool) -> Context
     ensures { λ r. ⌜ Sets (tighten x) c r ⌝ }
 {
-    let n = c.tight.count;
-    let old = c.tight.bits;
-    if 63 < n {
-        return c;
-    }
-    if 0x7FFF_FFFF_FFFF_FFFF < old {
-        return c;
-    }
-    with_container(c, x)
-}
-
-// The newest in the lowest bit.
-fn with_container(c: Context, x: bool) -> Context
-    requires { ⌜ (c .tight .bits < 2 ^ 63) × (c .tight .count < 64) ⌝ }
-    ensures { λ r. ⌜ r ≡ wider x c ⌝ }
-{
     let mut r = c;
-    let count = c.tight.count + 1;
-    let bits = c.tight.bits * 2;
-    r.tight.count = count;
-    if x {
-        let odd = bits + 1;
-        r.tight.bits = odd;
-        return r;
-    }
-    r.tight.bits = bits;
+    r.tight = tight::more(c.tight, x);
     r
 }
 
@@ -273,24 +244,14 @@ pub fn loosen(c: Context) -> Context
     ensures { λ r. ⌜ Sets loosen c r ⌝ }
 {
     let mut r = c;
-    let n = c.tight.count;
-    if n == 0 {
-        return c;
-    }
-    let bits = c.tight.bits / 2;
-    let count = n - 1;
-    r.tight.bits = bits;
-    r.tight.count = count;
+    r.tight = tight::fewer(c.tight);
     r
 }
 
 pub fn is_tight(c: Context) -> bool
     ensures { λ r. ⌜ Tells Any isTight c r ⌝ }
 {
-    if c.tight.count == 0 {
-        return false;
-    }
-    c.tight.bits % 2 == 1
+    tight::newest(c.tight)
 }
 
 pub fn is_in_container(c: Context) -> bool

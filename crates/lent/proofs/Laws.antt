@@ -13,15 +13,15 @@ use Rattle.lent.specs.Bytes.{any, each}
 
 -- ---- fill, by the buffer's first byte
 
-fill-empty : (at : ℕ) (s : List ℕ) → fill [] at s ≡ []
+pub fill-empty : (at : ℕ) (s : List ℕ) → fill [] at s ≡ []
 unfolding fill
 fill-empty at s = refl
 
-fill-suc : (x : ℕ) (d : List ℕ) (at : ℕ) (s : List ℕ) → fill (x ∷ d) (suc at) s ≡ x ∷ fill d at s
+pub fill-suc : (x : ℕ) (d : List ℕ) (at : ℕ) (s : List ℕ) → fill (x ∷ d) (suc at) s ≡ x ∷ fill d at s
 unfolding fill
 fill-suc x d at s = rw suc-add
 
-fill-zero : (x b : ℕ) (d s : List ℕ) → fill (x ∷ d) 0 (b ∷ s) ≡ b ∷ fill d 0 s
+pub fill-zero : (x b : ℕ) (d s : List ℕ) → fill (x ∷ d) 0 (b ∷ s) ≡ b ∷ fill d 0 s
 unfolding fill
 fill-zero x b d s = simp zero-add
 
@@ -71,6 +71,42 @@ fill-cut d at n s h k =
     sym (fill-out (fill d at (take n s)) (past d at (take n s)) (drop n s) (rw length-fill e))
     ∙ fill-fill d at (take n s) (drop n s)
     ∙ rw take-append-drop
+
+-- a byte before the place stays, and all behind the text
+pub byte-below : (d : List ℕ) (at : ℕ) (s : List ℕ) (k : ℕ) → k < at → getD (fill d at s) k 0 ≡ getD d k 0
+byte-below [] at s k h = rw fill-empty
+byte-below (x ∷ d) zero s k h = absurd (omega arith)
+byte-below (x ∷ d) (suc at) s zero h = rw fill-suc
+byte-below (x ∷ d) (suc at) s (suc k) h = rw fill-suc (byte-below d at s k (omega arith))
+
+pub rest-behind : (d : List ℕ) (at : ℕ) (s : List ℕ) (k : ℕ) → at + length s ≤ k → drop k (fill d at s) ≡ drop k d
+rest-behind [] at s k h = rw fill-empty
+rest-behind (x ∷ d) zero [] k h = rw fill-none
+rest-behind (x ∷ d) zero (b ∷ s) zero h = absurd (omega arith)
+rest-behind (x ∷ d) zero (b ∷ s) (suc k) h = rw fill-zero (rest-behind d 0 s k (omega arith))
+rest-behind (x ∷ d) (suc at) s zero h = absurd (omega arith)
+rest-behind (x ∷ d) (suc at) s (suc k) h = rw fill-suc (rest-behind d at s k (omega arith))
+
+-- what stands before the place stays; and what lies behind a start, or before an end, is filled by itself
+pub front-before : (d : List ℕ) (at : ℕ) (s : List ℕ) (k : ℕ) → k ≤ at → take k (fill d at s) ≡ take k d
+front-before [] at s k h = rw fill-empty
+front-before (x ∷ d) at s zero h = refl
+front-before (x ∷ d) zero s (suc k) h = absurd (omega arith)
+front-before (x ∷ d) (suc at) s (suc k) h = rw fill-suc (ap (λ (l : List ℕ). x ∷ l) (front-before d at s k (omega arith)))
+
+pub fill-behind : (k : ℕ) (d : List ℕ) (at : ℕ) (s : List ℕ) → drop k (fill d (k + at) s) ≡ fill (drop k d) at s
+fill-behind zero d at s = simp zero-add
+fill-behind (suc k) [] at s = rw (fill-empty, fill-empty)
+fill-behind (suc k) (x ∷ d) at s = rw (suc-add, fill-suc) (fill-behind k d at s)
+
+pub fill-before-end : (n : ℕ) (d : List ℕ) (at : ℕ) (s : List ℕ) → at + length s ≤ n → take n (fill d at s) ≡ fill (take n d) at s
+fill-before-end zero d zero [] h = rw fill-none
+fill-before-end zero d zero (b ∷ s) h = absurd (omega arith)
+fill-before-end zero d (suc at) s h = absurd (omega arith)
+fill-before-end (suc n) [] at s h = rw fill-empty
+fill-before-end (suc n) (x ∷ d) zero [] h = rw (fill-none, fill-none)
+fill-before-end (suc n) (x ∷ d) zero (b ∷ s) h = rw (fill-zero, fill-zero) (ap (λ (l : List ℕ). b ∷ l) (fill-before-end n d 0 s (omega arith)))
+fill-before-end (suc n) (x ∷ d) (suc at) s h = rw (fill-suc, fill-suc) (ap (λ (l : List ℕ). x ∷ l) (fill-before-end n d at s (omega arith)))
 
 -- ---- what a call of `lent` gives
 

@@ -10,40 +10,11 @@ use lib.Dec.{eqb}
 use lib.ListN.{length, drop, set, getD, length-append, length-set}
 use Rattle.lent.specs.Bytes.{if_then_else_}
 use Rattle.lent.specs.Fill.{fill, Filled}
-use Rattle.lent.proofs.Laws.{fill-none, none, Left, all, step, done}
+use Rattle.lent.proofs.Laws.{fill-empty, fill-suc, fill-zero, fill-none, byte-below, rest-behind, none, Left, all, step, done}
 use Rattle.machine.specs.Text.{unescapePipes}
 use Rattle.resume.specs.Written.{pipesIn}
 use Rattle.resume.specs.Private.{part, Within, Grown, Packed, opensPipe}
 use Rattle.resume.proofs.Parts.{part-none, part-cons, length-part, filled-grown}
-
--- ---- fill, by the buffer's first byte
-
-fill-empty : (at : ℕ) (s : List ℕ) → fill [] at s ≡ []
-unfolding fill
-fill-empty at s = refl
-
-fill-suc : (x : ℕ) (d : List ℕ) (at : ℕ) (s : List ℕ) → fill (x ∷ d) (suc at) s ≡ x ∷ fill d at s
-unfolding fill
-fill-suc x d at s = rw suc-add
-
-fill-zero : (x b : ℕ) (d s : List ℕ) → fill (x ∷ d) 0 (b ∷ s) ≡ b ∷ fill d 0 s
-unfolding fill
-fill-zero x b d s = let z : (k : ℕ) → 0 + k ≡ k = λ k. (omega arith) in simp z
-
--- a byte before the place stays, and all behind the text
-byte-below : (d : List ℕ) (at : ℕ) (s : List ℕ) (k : ℕ) → k < at → getD (fill d at s) k 0 ≡ getD d k 0
-byte-below [] at s k h = rw fill-empty
-byte-below (x ∷ d) zero s k h = absurd (omega arith)
-byte-below (x ∷ d) (suc at) s zero h = rw fill-suc
-byte-below (x ∷ d) (suc at) s (suc k) h = rw fill-suc (byte-below d at s k (omega arith))
-
-rest-behind : (d : List ℕ) (at : ℕ) (s : List ℕ) (k : ℕ) → at + length s ≤ k → drop k (fill d at s) ≡ drop k d
-rest-behind [] at s k h = rw fill-empty
-rest-behind (x ∷ d) zero [] k h = rw fill-none
-rest-behind (x ∷ d) zero (b ∷ s) zero h = absurd (omega arith)
-rest-behind (x ∷ d) zero (b ∷ s) (suc k) h = rw fill-zero (rest-behind d 0 s k (omega arith))
-rest-behind (x ∷ d) (suc at) s zero h = absurd (omega arith)
-rest-behind (x ∷ d) (suc at) s (suc k) h = rw fill-suc (rest-behind d at s k (omega arith))
 
 -- what is put before a text is part of it
 set-before : (d : List ℕ) (at : ℕ) (s : List ℕ) (b : ℕ) → at < length d → set (fill d (suc at) s) at b ≡ fill d at (b ∷ s)

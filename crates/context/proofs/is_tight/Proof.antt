@@ -1,13 +1,15 @@
--- None, or the lowest bit.
+-- By the bits.
+use borrow.Author.Needs.{needs}
 use Rattle.context.proofs.is_tight.Statement.{statement}
 use Rattle.context.proofs.is_tight.Tie as tie
-use Rattle.context.proofs.Containers.{none-tight, newest-tight}
+use Rattle.tight.proofs.newest.Reads as newest-reads
+use Rattle.context.proofs.Containers.{tells-tight}
+
+newest-requires : tie.Need-newest-requires
+newest-requires c κs = search needs
 
 returns : tie.Need-returns
-returns c = search none-tight
-
-returns-2 : tie.Need-returns-2
-returns-2 c = search newest-tight
+returns c = search tells-tight
 
 pub is-tight-spec : {M : Type 1} → statement M
-is-tight-spec = tie.close (tie.spec returns returns-2)
+is-tight-spec = tie.close (tie.spec newest-requires returns)
