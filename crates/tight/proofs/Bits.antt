@@ -1,15 +1,17 @@
 -- One answer more and one fewer, in bits. Assumes nothing.
 use mathlib.Core.Path.{_≡_, refl, sym, ap, _∙_}
-use mathlib.Core.Bool.{Bool, true, false}
+use mathlib.Core.Bool.{Bool, true, false, not, _||_}
 use mathlib.Core.List.{List, [], _∷_}
-use Prim.Native.Nat.{ℕ, suc, _+_, _-_, _/_, _%_, _*_, _^_, _≤_, _<_}
+use Prim.Native.Nat.{ℕ, zero, suc, _+_, _-_, _/_, _%_, _*_, _^_, _≤_, _<_}
+use native.Mathlib.Decide.{decLe}
 use native.Mathlib.Omega.{arith}
 use native.Mathlib.Numerals.{add-one}
+use borrow.Author.Tests.{ne-eqb, eqb-true, eqb-false}
 use lib.Dec.{eqb}
 use lib.ListN.{length}
 use lib.Pow.{pow-mono, pow-add, shr-lt, low, high}
 use Rattle.tight.specs.declared.Tight.{Tight}
-use Rattle.tight.specs.Tight.{answers, Tightened, older, newestOf, More, Fewer, Newest}
+use Rattle.tight.specs.Tight.{answers, Tightened, older, newestOf, anyOf, More, Fewer, Newest, Any}
 use Rattle.tight.specs.Private.{bitOf, wider}
 
 -- ---- one more
@@ -99,3 +101,31 @@ module _ {t : Tight} where
           let e : t .count ≡ suc (length bs) = x .count in
           let q : answers (suc (length bs)) (t .bits) ≡ b ∷ bs = rw e at (x .bits) in
           ap newestOf q
+
+-- ---- any
+
+even-small : (bits : ℕ) → (bits % 2 ≡ 1 → ⊥) → bits / 2 ≡ 0 → bits ≡ 0
+even-small bits odd h = elim (decLe 1 bits) [ yes z ↦ absurd (odd (omega arith)) | no z ↦ omega arith ]
+
+-- where the lowest is no, the others decide
+even-zero : (bits : ℕ) → eqb (bits % 2) 1 ≡ false → not (eqb bits 0) ≡ not (eqb (bits / 2) 0)
+even-zero bits q =
+    elim (decLe 1 (bits / 2)) [
+      | yes z ↦ rw (ne-eqb bits 0 (λ e. absurd (omega arith)), ne-eqb (bits / 2) 0 (λ e. absurd (omega arith)))
+      | no z ↦ let e : bits ≡ 0 = even-small bits (eqb-false (bits % 2) 1 q) (omega arith) in rw e
+    ]
+
+odd-there : (bits : ℕ) → eqb (bits % 2) 1 ≡ true → bits ≡ 0 → ⊥
+odd-there bits q z = let r : bits % 2 ≡ 1 = eqb-true (bits % 2) 1 q in omega arith
+
+-- n answers in bits below 2 ^ n: one is yes exactly where the bits are not 0
+some-bit : (n bits : ℕ) → bits < 2 ^ n → not (eqb bits 0) ≡ anyOf (answers n bits)
+some-bit zero bits h = let z : bits ≡ 0 = omega arith in rw z
+some-bit (suc n) bits h = on (eqb (bits % 2) 1) refl (some-bit n (bits / 2) (let e : suc n ≡ n + 1 = omega arith in shr-lt n 1 (rw e at h)))
+  where
+    on : (x : Bool) → eqb (bits % 2) 1 ≡ x → not (eqb (bits / 2) 0) ≡ anyOf (answers n (bits / 2)) → not (eqb bits 0) ≡ x || anyOf (answers n (bits / 2))
+    on true q p = rw (ne-eqb bits 0 (odd-there bits q))
+    on false q p = even-zero bits q ∙ p
+
+pub any-bit : {t : Tight} → Any t (not (eqb (t .bits) 0))
+any-bit {t} = record { any = λ a x. rw (← x .bits) (some-bit (t .count) (t .bits) (x .small)) }

@@ -1,6 +1,6 @@
 -- A list of answers in bits. Assumes nothing.
 use mathlib.Core.Path.{_≡_}
-use mathlib.Core.Bool.{Bool, true, false}
+use mathlib.Core.Bool.{Bool, true, false, _||_}
 use mathlib.Core.List.{List, [], _∷_}
 use Prim.Native.Nat.{ℕ, zero, suc, _/_, _%_, _^_, _<_}
 use lib.Dec.{eqb}
@@ -25,6 +25,10 @@ abbrev pub newestOf : List Bool → Bool
 newestOf [] = false
 newestOf (x ∷ a) = x
 
+abbrev pub anyOf : List Bool → Bool
+anyOf [] = false
+anyOf (x ∷ a) = x || anyOf a
+
 pub record More (x : Bool) (t r : Tight) : Type 0 where
   pub more : (a : List Bool) → length a < 64 → Tightened t a → Tightened r (x ∷ a)
 
@@ -33,3 +37,6 @@ pub record Fewer (t r : Tight) : Type 0 where
 
 pub record Newest (t : Tight) (r : Bool) : Type 0 where
   pub newest : (a : List Bool) → Tightened t a → r ≡ newestOf a
+
+pub record Any (t : Tight) (r : Bool) : Type 0 where
+  pub any : (a : List Bool) → Tightened t a → r ≡ anyOf a

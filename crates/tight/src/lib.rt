@@ -1,7 +1,7 @@
 // A stack of at most 64 answers, such as which containers are tight: a bit each, the newest lowest.
 ghost use Prim.Native.Nat.{_<_, _^_};
 ghost use mathlib.Core.Path.{_≡_};
-ghost use Rattle.tight.specs.Tight.{More, Fewer, Newest};
+ghost use Rattle.tight.specs.Tight.{More, Fewer, Newest, Any};
 ghost use Rattle.tight.specs.Private.{wider};
 
 pub struct Tight {
@@ -62,4 +62,11 @@ pub fn newest(t: Tight) -> bool
         return false;
     }
     t.bits % 2 == 1
+}
+
+// Whether any is yes.
+pub fn any(t: Tight) -> bool
+    ensures { λ r. ⌜ Any t r ⌝ }
+{
+    t.bits != 0
 }

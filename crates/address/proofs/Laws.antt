@@ -1,0 +1,82 @@
+-- What the code of `address` goes by: the walk over an identity, and the two bytes behind a %. Assumes nothing.
+use mathlib.Core.Path.{_≡_, refl, ap, _∙_}
+use mathlib.Core.Bool.{Bool, true, false, and-false}
+use mathlib.Core.List.{List, [], _∷_, _++_}
+use Prim.Native.Nat.{ℕ}
+use borrow.Author.Tests.{ne-eqb}
+use lib.ListN.{getD}
+use Rattle.lent.specs.Bytes.{each, lower, mapped, isAlnum}
+use Rattle.lent.specs.Fill.{Filled}
+use Rattle.lent.proofs.Laws.{each-append}
+use Rattle.encode_byte.specs.Byte.{encodeByte}
+use Rattle.encode.specs.Encode.{encodeOf}
+use Rattle.url_byte.specs.Byte.{isKept, twoAlnum, stays, urlByte}
+use Rattle.url_byte.specs.Private.{byteOf}
+use Rattle.normalize_uri.specs.Url.{normalizeOf}
+use Rattle.sanitize_uri.specs.Url.{sanitizeOf}
+use Rattle.normalize_identifier.specs.declared.Cursor.{Cursor}
+use Rattle.normalize_identifier.specs.declared.Step.{Step}
+use Rattle.normalize_identifier.specs.declared.Step.the-variants.{Byte, End}
+use Rattle.normalize_identifier.specs.Identity.{atStart, leftAt, Spells}
+use Rattle.normalize_identifier.proofs.Laws.{left-start, left-more, left-end}
+use Rattle.machine.specs.Footnote.{addressOf}
+
+-- ---- the walk
+
+-- what is left to write at a cursor
+abbrev pub addressAt : List ℕ → Cursor → List ℕ
+addressAt label c = sanitizeOf (mapped lower (leftAt label c))
+
+-- what one byte of an identity becomes, before those that follow
+abbrev pub written : ℕ → List ℕ → List ℕ
+written b bs = encodeOf true (byteOf (mapped lower (b ∷ bs)))
+
+pub address-start : (label : List ℕ) → addressAt label atStart ≡ addressOf label
+unfolding addressOf
+address-start label = rw (left-start label refl)
+
+sanitize-more : (b : ℕ) (bs : List ℕ) → sanitizeOf (b ∷ bs) ≡ encodeOf true (byteOf (b ∷ bs)) ++ sanitizeOf bs
+unfolding sanitizeOf normalizeOf encodeOf byteOf
+sanitize-more b bs = each-append (encodeByte true) (urlByte (stays (b ∷ bs)) b) (normalizeOf bs)
+
+module _ {label : List ℕ} {c : Cursor} {n : Step} (s : Spells label c n) where
+  pub address-more : {b : ℕ} {d : Cursor} → n ≡ Byte b d → addressAt label c ≡ written b (leftAt label d) ++ addressAt label d
+  address-more {b} {d} p = rw (left-more s p) (sanitize-more (lower b) (mapped lower (leftAt label d)))
+
+  pub address-end : n ≡ End → addressAt label c ≡ []
+  unfolding sanitizeOf normalizeOf encodeOf
+  address-end p = rw (left-end s p)
+
+-- ---- one byte
+
+module _ {l : ℕ} (b : ℕ) (bs : List ℕ) (q : l ≡ lower b) where
+  pub of-sign : l ≡ 37 → written b bs ≡ encodeOf true (byteOf (37 ∷ mapped lower bs))
+  of-sign p = rw (← q, p)
+
+  -- any other than a % does not look on
+  pub of-other : (l ≡ 37 → ⊥) → written b bs ≡ encodeOf true (byteOf (l ∷ 0 ∷ 0 ∷ []))
+  unfolding byteOf stays
+  of-other n = rw (← q, ne-eqb l 37 n)
+
+two-ahead : (a : ℕ) (bs : List ℕ) → twoAlnum (a ∷ mapped lower bs) ≡ twoAlnum (a ∷ lower (getD bs 0 0) ∷ [])
+unfolding twoAlnum
+two-ahead a [] = rw (and-false (isAlnum a))
+two-ahead a (b ∷ bs) = refl
+
+module _ {label : List ℕ} {c : Cursor} {n : Step} (s : Spells label c n) where
+  -- a % that ends an identity
+  pub sign-last : n ≡ End → encodeOf true (byteOf (37 ∷ mapped lower (leftAt label c))) ≡ encodeOf true (byteOf (37 ∷ 0 ∷ 0 ∷ []))
+  unfolding byteOf stays twoAlnum
+  sign-last p = rw (left-end s p)
+
+  -- and one with a byte behind it, and perhaps a second
+  pub sign-more : {b x y : ℕ} {d : Cursor} → n ≡ Byte b d → x ≡ lower b → y ≡ lower (getD (leftAt label d) 0 0)
+      → encodeOf true (byteOf (37 ∷ mapped lower (leftAt label c))) ≡ encodeOf true (byteOf (37 ∷ x ∷ y ∷ []))
+  unfolding byteOf stays
+  sign-more {b} {d = d} p q r = rw (left-more s p, q, r, two-ahead (lower b) (leftAt label d))
+
+  pub byte-there : {b x : ℕ} {d : Cursor} → n ≡ Byte b d → x ≡ lower b → x ≡ lower (getD (leftAt label c) 0 0)
+  byte-there p q = rw (left-more s p) q
+
+  pub byte-missing : n ≡ End → 0 ≡ lower (getD (leftAt label c) 0 0)
+  byte-missing p = rw (left-end s p)

@@ -1,0 +1,16 @@
+pub mod Valid
+pub mod Texts
+pub mod Encoded
+pub mod Urls
+pub mod CodeText
+pub mod Safe
+pub mod Pushed
+pub mod Media
+pub mod Footnotes
+pub mod Commands
+pub mod Handlers
+pub mod Appends
+pub mod Bodies
+pub mod Section
+pub mod Page
+pub mod Within

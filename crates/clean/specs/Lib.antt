@@ -1,0 +1,4 @@
+pub mod Clean
+pub mod Ours
+pub mod Section
+pub mod Turns

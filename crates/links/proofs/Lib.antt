@@ -1,0 +1,4 @@
+pub mod Held
+pub mod Newest
+pub mod Known
+pub mod Stored

@@ -1,0 +1,123 @@
+-- The first item's answer, and the questions that the handlers of lists ask. Assumes nothing.
+use mathlib.Core.Path.{_≡_, refl, sym, ap, ap₂, _∙_}
+use mathlib.Core.Bool.{Bool, true, false, not, _&&_, or-false}
+use mathlib.Core.List.{List, [], _∷_}
+use mathlib.Core.Option.{Option, none, some}
+use Prim.Native.Nat.{ℕ}
+use Prim.Native.String.{String}
+use lib.Dec.{eqb}
+use Rattle.lent.specs.Bytes.{bytes}
+use Rattle.event.specs.declared.Event.{Event}
+use Rattle.event.specs.Event as Event
+use Rattle.event.specs.Event.{named}
+use Rattle.machine.specs.Outcome.{stop, go, _>>=_, need}
+use Rattle.machine.specs.Set.{setFirst}
+use Rattle.machine.specs.Turn.{Turn, lookBack}
+use Rattle.machine.specs.Test.{isOrdered, isLoose, isFirstMarker, isTight, isTightParagraph, isEmptyItem, tightOf, test}
+use Rattle.machine.specs.Command.{whether, put, tighten, first, exec}
+use Rattle.bounded.specs.Within.{within}
+use Rattle.context.specs.declared.Answer.{Answer}
+use Rattle.context.specs.declared.Answer.the-variants as A
+use Rattle.context.specs.declared.Context.{Context}
+use Rattle.context.specs.Rel.{Any, Keeps, Sets, Pushes, Tells, answerOf}
+use Rattle.context.proofs.Plain.{never, stands, setting}
+use Rattle.context.proofs.Commands.{first-goes, sets, puts, whether-yes, whether-no}
+use Rattle.on_list.specs.Lists.{IsOrdered, OpensList, LooksBack, SetsFirst, PushesByOrder}
+
+-- ---- the first item
+
+abbrev withFirst : Answer → Context → Context
+withFirst x c =
+    record {
+      buffers = c .buffers;
+      flags = c .flags;
+      waiting = record { rank = c .waiting .rank; seen = c .waiting .seen; fences = c .waiting .fences; marker = c .waiting .marker; first = x };
+      tight = c .tight;
+      table = c .table;
+      ending = c .ending;
+    }
+
+pub sets-first : {c : Context} (x : Answer) → SetsFirst x c (withFirst x c)
+unfolding exec within
+sets-first x = record {
+  sets-first = λ y p.
+      setting (setFirst (some y)) (λ t s. refl)
+      (λ w o b s i r.
+      let v = r .waits in
+      record {
+        stand = stands (r .stand) refl refl;
+        flags = r .flags;
+        waits = record { rank = v .rank; seen = v .seen; fences = v .fences; marker = v .marker; first = p };
+        tight = r .tight;
+        table = r .table;
+        ending = r .ending;
+      });
+}
+
+abbrev isYes : Answer → Bool
+isYes A.Unset = false
+isYes A.Yes = true
+isYes A.No = false
+
+first-of : (x : Answer) (f : Option Bool) (y : Bool) → answerOf x ≡ f → need f ≡ go y → y ≡ isYes x
+first-of A.Unset f y h p = let z : stop ≡ go y = rw (← h) at p in never z
+first-of A.Yes f y h p = let z : go true ≡ go y = rw (← h) at p in let e : true ≡ y = cc in sym e
+first-of A.No f y h p = let z : go false ≡ go y = rw (← h) at p in let e : false ≡ y = cc in sym e
+
+pub tells-first : {c : Context} (x : Answer) → c .waiting .first ≡ x → Tells Any isFirstMarker c (isYes x)
+unfolding test
+tells-first x q = record { tells = λ t w o b s y v r p. first-of x (s .waiting .first) y (rw q at (r .waits .first)) p }
+
+-- ---- the list's event
+
+tells-ordered : {c : Context} {x : Bool} → Tells (IsOrdered x) isOrdered c x
+unfolding test
+tells-ordered = record { tells = λ t w o b s y v r p. (let q : named (21 ∷ []) (t .event) ≡ y = cc in sym q ∙ v .ordered-is) }
+
+module _ {yes no : List ℕ} {c r : Context} {w o w′ o′ : List ℕ} {x : Bool} where
+  pub pushes-yes : x ≡ true → Pushes yes c w o r w′ o′ → PushesByOrder x yes no c w o r w′ o′
+  pushes-yes h k = record { pushes = λ a b p q. whether-yes tells-ordered h (puts (rw p k)) }
+
+  pub pushes-no : x ≡ false → Pushes no c w o r w′ o′ → PushesByOrder x yes no c w o r w′ o′
+  pushes-no h k = record { pushes = λ a b p q. whether-no tells-ordered h (puts (rw q k)) }
+
+pub by-order : {a b : String} {c r : Context} {w o w′ o′ : List ℕ} {x : Bool} → PushesByOrder x (bytes a) (bytes b) c w o r w′ o′ → Keeps (IsOrdered x) (whether isOrdered (put a) (put b)) c w o r w′ o′
+by-order {a} {b} k = k .pushes a b refl refl
+
+tells-loose : {c : Context} {x y : Bool} → Tells (OpensList x y) isLoose c y
+unfolding test
+tells-loose = record { tells = λ t w o b s z v r p. (let q : Event.isLoose (t .event) ≡ z = cc in sym q ∙ v .loose-is) }
+
+pub tightens : {c r : Context} {w o : List ℕ} {x : Bool} (loose : Bool) → Sets (tighten (not loose)) c r → Keeps (OpensList x loose) (whether isLoose (tighten false) (tighten true)) c w o r w o
+tightens true k = whether-yes tells-loose refl (sets k)
+tightens false k = whether-no tells-loose refl (sets k)
+
+-- ---- the look back
+
+needed : {A : Type 0} (o : Option A) (a : A) → need o ≡ go a → o ≡ some a
+needed none a p = never p
+needed (some b) a p = let e : b ≡ a = cc in ap some e
+
+-- where it is asked it finds an event, whose name is told
+asked : {n : ℕ} (t : Turn) (f : Event → Bool) (y : Bool) → LooksBack n t → (need (lookBack 0 (t .before)) >>= λ e. go (f e)) ≡ go y → (e : Event) × (e .name ≡ n) × (f e ≡ y)
+asked t f y v p =
+    let g = first-goes (need (lookBack 0 (t .before))) (λ e. go (f e)) y p in
+    let q = g .2 in
+    (g .0, v .behind-is (g .0) (needed (lookBack 0 (t .before)) (g .0) (g .1)), cc)
+
+named-so : (k : ℕ) {n : ℕ} (e : Event) → e .name ≡ n → named (k ∷ []) e ≡ eqb n k
+named-so k e p = rw (p, or-false)
+
+module _ {c : Context} {n : ℕ} where
+  pub tells-tight : {x : Bool} → Tells Any isTight c x → Tells (LooksBack n) isTightParagraph c (x && eqb n 12)
+  unfolding test
+  tells-tight {x} a = record {
+    tells = λ t w o b s y v r p.
+        let g = asked t (λ e. tightOf (s .tight) && named (12 ∷ []) e) y v p in
+        let k : tightOf (s .tight) ≡ x = a .tells t w o b s (tightOf (s .tight)) (record {}) r refl in
+        sym (g .2) ∙ ap₂ _&&_ k (named-so 12 (g .0) (g .1));
+  }
+
+  pub tells-empty : Tells (LooksBack n) isEmptyItem c (eqb n 24)
+  unfolding test
+  tells-empty = record { tells = λ t w o b s y v r p. (let g = asked t (λ e. named (24 ∷ []) e) y v p in sym (g .2) ∙ named-so 24 (g .0) (g .1)) }

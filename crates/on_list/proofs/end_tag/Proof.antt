@@ -1,0 +1,43 @@
+-- By the answer. Assumes nothing.
+use borrow.Author.Needs.{needs}
+use Rattle.on_list.proofs.end_tag.Statement.{statement}
+use Rattle.on_list.proofs.end_tag.Tie as tie
+use Rattle.context.proofs.Commands.{idle, puts, whether-yes, whether-no}
+
+is-first-marker-requires : tie.Need-is-first-marker-requires
+is-first-marker-requires c κs = search needs
+
+slice-aggregate-push : tie.Need-slice-aggregate-push
+slice-aggregate-push c = search needs
+
+push-requires : tie.Need-push-requires
+push-requires c κs = search needs
+
+same-length : tie.Need-same-length
+same-length c = search needs
+
+same-length-2 : tie.Need-same-length-2
+same-length-2 c = search needs
+
+returns : tie.Need-returns
+returns c =
+    let c2 = c .before .before .before .before in
+    let c1 = c2 .before .before .before .before .before in
+    whether-yes (c1 .is-first-marker .ensures) (search needs) (puts (c2 .push .ensures))
+
+returns-2 : tie.Need-returns-2
+returns-2 c =
+    let c1 = c .before in
+    whether-no (c1 .is-first-marker .ensures) (search needs) idle
+
+pub end-tag-spec : {M : Type 1} → statement M
+end-tag-spec =
+    tie.close
+    (tie.spec
+    is-first-marker-requires
+    slice-aggregate-push
+    push-requires
+    same-length
+    same-length-2
+    returns
+    returns-2)

@@ -1,0 +1,42 @@
+-- By the answer. Assumes nothing.
+use borrow.Author.Needs.{needs}
+use Rattle.on_list.proofs.on_exit_list_item_value.Statement.{statement}
+use Rattle.on_list.proofs.on_exit_list_item_value.Tie as tie
+use Rattle.machine.specs.OnList.{onExitListItemValue}
+use Rattle.context.proofs.Commands.{idle, told, whether-yes, whether-no}
+
+is-first-marker-requires : tie.Need-is-first-marker-requires
+is-first-marker-requires c κs = search needs
+
+push-start-requires : tie.Need-push-start-requires
+push-start-requires c κs = search needs
+
+same-length : tie.Need-same-length
+same-length c = search needs
+
+same-length-2 : tie.Need-same-length-2
+same-length-2 c = search needs
+
+returns : tie.Need-returns
+unfolding onExitListItemValue
+returns c =
+    let c2 = c .before .before .before .before in
+    let c1 = c2 .before .before .before .before in
+    whether-yes (told (c1 .is-first-marker .ensures)) (search needs) (c2 .push-start .ensures)
+
+returns-2 : tie.Need-returns-2
+unfolding onExitListItemValue
+returns-2 c =
+    let c1 = c .before in
+    whether-no (told (c1 .is-first-marker .ensures)) (search needs) idle
+
+pub on-exit-list-item-value-spec : {M : Type 1} → statement M
+on-exit-list-item-value-spec =
+    tie.close
+    (tie.spec
+    is-first-marker-requires
+    push-start-requires
+    same-length
+    same-length-2
+    returns
+    returns-2)

@@ -1,0 +1,201 @@
+// What handlers write beside texts of ours: numbers, padded lines, addresses, character references, attributes. Each goes to the newest buffer.
+ghost use mathlib.Core.Path.{_≡_};
+ghost use mathlib.Core.List.{_++_};
+ghost use lib.ListN.{replicate};
+ghost use Rattle.lent.specs.Bytes.{bytes};
+ghost use Rattle.lent.specs.Fill.{Filled};
+ghost use Rattle.encode.specs.Encode.{encodeOf};
+ghost use Rattle.sanitize_uri.specs.Url.{sanitizeOf};
+ghost use Rattle.event.specs.Event.{alignmentOf};
+ghost use Rattle.character_reference.specs.Reference.{referenceOf, orNothing};
+ghost use Rattle.machine.specs.Buffers.{push};
+ghost use Rattle.machine.specs.Text.{decimal};
+ghost use Rattle.machine.specs.Turn.{urlOf};
+ghost use Rattle.buffers.specs.Stand.{Keeps};
+ghost use Rattle.pieces.specs.Pieces.{PushesMail, PushesReference, PushesStart, PushesAlign, enterOf};
+use buffers::Buffers;
+use character_reference::Marker;
+use event::BytePlace;
+use event::Event;
+use machine::Options;
+use sanitize_uri::Protocols;
+
+// A number in decimal.
+pub fn push_decimal(b: Buffers, captures: &mut [u8], out: &mut [u8], n: usize) -> Buffers
+    ensures { λ r. ⌜ Keeps (push (decimal n)) b (now (captures .entry)) (now (out .entry)) r (now (captures .exit)) (now (out .exit)) ⌝ }
+{
+    let mut r = b;
+    if b.depth == 0 {
+        r.page = digits::put_decimal(out, b.page, n);
+        return r;
+    }
+    r.end = digits::put_decimal(captures, b.end, n);
+    r
+}
+
+// A line of code between its virtual spaces, encoded where `encoding` says so.
+pub fn push_padded(
+    b: Buffers,
+    captures: &mut [u8],
+    out: &mut [u8],
+    before: u8,
+    s: &[u8],
+    after: u8,
+    encoding: bool,
+) -> Buffers
+    ensures { λ r. ⌜ Keeps (push (encodeOf encoding (replicate before 32 ++ now (s .entry) ++ replicate after 32))) b (now (captures .entry)) (now (out .entry)) r (now (captures .exit)) (now (out .exit)) ⌝ }
+{
+    let mut r = b;
+    if b.depth == 0 {
+        r.page = put_padded(out, b.page, before, s, after, encoding);
+        return r;
+    }
+    r.end = put_padded(captures, b.end, before, s, after, encoding);
+    r
+}
+
+fn put_padded(out: &mut [u8], at: usize, before: u8, s: &[u8], after: u8, encoding: bool) -> usize
+    ensures { λ r. ⌜ Filled (now (out .entry)) at (encodeOf encoding (replicate before 32 ++ now (s .entry) ++ replicate after 32)) (now (out .exit)) r ⌝ }
+{
+    let p = digits::put_spaces(out, at, before as usize);
+    let q = encode::encode(s, encoding, out, p);
+    digits::put_spaces(out, q, after as usize)
+}
+
+// ---- addresses
+
+// The URL of a link or an image, made safe as the options say.
+pub fn push_url(
+    b: Buffers,
+    captures: &mut [u8],
+    out: &mut [u8],
+    s: &[u8],
+    options: Options,
+    image: bool,
+) -> Buffers
+    ensures { λ r. ⌜ Keeps (push (urlOf options image (now (s .entry)))) b (now (captures .entry)) (now (out .entry)) r (now (captures .exit)) (now (out .exit)) ⌝ }
+{
+    let mut r = b;
+    if b.depth == 0 {
+        r.page = put_url(out, b.page, s, options, image);
+        return r;
+    }
+    r.end = put_url(captures, b.end, s, options, image);
+    r
+}
+
+fn put_url(out: &mut [u8], at: usize, s: &[u8], options: Options, image: bool) -> usize
+    ensures { λ r. ⌜ Filled (now (out .entry)) at (urlOf options image (now (s .entry))) (now (out .exit)) r ⌝ }
+{
+    if options.allow_dangerous_protocol {
+        return sanitize_uri::sanitize(s, out, at);
+    }
+    if !image {
+        return sanitize_uri::sanitize_with_protocols(s, Protocols::Link, out, at);
+    }
+    if options.allow_any_img_src {
+        return sanitize_uri::sanitize(s, out, at);
+    }
+    sanitize_uri::sanitize_with_protocols(s, Protocols::Image, out, at)
+}
+
+// The address of an email autolink: with its scheme it is safe, whatever the options are.
+pub fn push_mail(b: Buffers, captures: &mut [u8], out: &mut [u8], s: &[u8]) -> Buffers
+    ensures { λ r. ⌜ PushesMail (now (s .entry)) b (now (captures .entry)) (now (out .entry)) r (now (captures .exit)) (now (out .exit)) ⌝ }
+{
+    let mut r = b;
+    if b.depth == 0 {
+        r.page = put_mail(out, b.page, s);
+        return r;
+    }
+    r.end = put_mail(captures, b.end, s);
+    r
+}
+
+fn put_mail(out: &mut [u8], at: usize, s: &[u8]) -> usize
+    ensures { λ r. ⌜ Filled (now (out .entry)) at (sanitizeOf (bytes "mailto:" ++ now (s .entry))) (now (out .exit)) r ⌝ }
+{
+    let p = lent::put_all(out, at, b"mailto:");
+    sanitize_uri::sanitize(s, out, p)
+}
+
+// ---- references
+
+// What a character reference stands for, encoded where `encoding` says so.
+pub fn push_reference(
+    b: Buffers,
+    captures: &mut [u8],
+    out: &mut [u8],
+    m: Marker,
+    s: &[u8],
+    encoding: bool,
+) -> Buffers
+    ensures { λ r. ⌜ PushesReference m (now (s .entry)) encoding b (now (captures .entry)) (now (out .entry)) r (now (captures .exit)) (now (out .exit)) ⌝ }
+{
+    let mut r = b;
+    if b.depth == 0 {
+        r.page = put_reference(out, b.page, m, s, encoding);
+        return r;
+    }
+    r.end = put_reference(captures, b.end, m, s, encoding);
+    r
+}
+
+// It is four bytes at most.
+fn put_reference(out: &mut [u8], at: usize, m: Marker, s: &[u8], encoding: bool) -> usize
+    ensures { λ r. ⌜ Filled (now (out .entry)) at (encodeOf encoding (orNothing (referenceOf m (now (s .entry))))) (now (out .exit)) r ⌝ }
+{
+    let mut d = [0u8; 4];
+    let n = character_reference::put_reference(&mut d, 0, m, s);
+    encode::encode(&d[0..n], encoding, out, at)
+}
+
+// ---- attributes
+
+// The start of a list, by its first item's value.
+pub fn push_start(b: Buffers, captures: &mut [u8], out: &mut [u8], s: &[u8]) -> Buffers
+    ensures { λ r. ⌜ PushesStart (now (s .entry)) b (now (captures .entry)) (now (out .entry)) r (now (captures .exit)) (now (out .exit)) ⌝ }
+{
+    let mut r = b;
+    if b.depth == 0 {
+        r.page = digits::put_start(out, b.page, s);
+        return r;
+    }
+    r.end = digits::put_start(captures, b.end, s);
+    r
+}
+
+// The alignment of a column, by the extra field of its table's enter.
+pub fn push_align(
+    b: Buffers,
+    captures: &mut [u8],
+    out: &mut [u8],
+    extra: u64,
+    column: usize,
+) -> Buffers
+    ensures { λ r. ⌜ PushesAlign extra column b (now (captures .entry)) (now (out .entry)) r (now (captures .exit)) (now (out .exit)) ⌝ }
+{
+    let mut r = b;
+    let a = alignment_in(extra, column);
+    if b.depth == 0 {
+        r.page = digits::put_align(out, b.page, a);
+        return r;
+    }
+    r.end = digits::put_align(captures, b.end, a);
+    r
+}
+
+fn alignment_in(extra: u64, column: usize) -> u64
+    ensures { λ r. ⌜ r ≡ alignmentOf (enterOf extra) column ⌝ }
+{
+    let enter = Event {
+        kind: Event::ENTER,
+        name: Event::GFM_TABLE,
+        before: 0,
+        after: 0,
+        from: BytePlace(0),
+        to: BytePlace(0),
+        extra,
+    };
+    enter.alignment(column)
+}
