@@ -13,7 +13,7 @@ use Rattle.resume.specs.Private.{part, Grown}
 
 -- ---- parts
 
-drop-take : (a m : ℕ) (l : List ℕ) → drop a (take m l) ≡ take (m - a) (drop a l)
+pub drop-take : (a m : ℕ) (l : List ℕ) → drop a (take m l) ≡ take (m - a) (drop a l)
 drop-take zero m l = let z : m - 0 ≡ m = omega arith in rw z
 drop-take (suc a) zero l = let z : 0 - suc a ≡ 0 = omega arith in rw z
 drop-take (suc a) (suc m) [] = let z : suc m - suc a ≡ m - a = omega arith in rw (z, take-nil (m - a))

@@ -22,10 +22,10 @@ module _ (b : Buffers) (captures starts out c : List ℕ) (cs : List (List ℕ))
   starts-at : b .start ≡ length (flat cs)
   starts-at = let f = rw q at (x .flat-is) in (rw q at (x .starts-are)) (holds-fits f l) .0
 
-  newest : part captures (b .start) (b .end) ≡ c
+  pub newest : part captures (b .start) (b .end) ≡ c
   newest = part-is captures (flat cs) c (b .start) (b .end) (holds-bytes (rw q at (x .flat-is)) l) starts-at
 
-  ordered : b .start ≤ b .end
+  pub ordered : b .start ≤ b .end
   ordered =
       let f = rw q at (x .flat-is) in
       let p = holds-place f (holds-fits f l) in

@@ -1,0 +1,115 @@
+-- The table of calls when one is counted. Assumes nothing.
+use mathlib.Core.Path.{_≡_, refl, sym, ap, _∙_}
+use mathlib.Core.List.{List, [], _∷_, _++_}
+use mathlib.Core.Option.{some}
+use mathlib.Core.Logic.{_⊎_, inl, inr}
+use Prim.Native.Nat.{ℕ, _+_, _*_, _≤_, _<_}
+use native.Mathlib.Omega.{arith}
+use lib.ListN.{length, set, getD, getElem?, length-set, length-take}
+use lib.Seq.{getD-set-same, getD-set-other}
+use Rattle.machine.specs.State.{State, Call}
+use Rattle.machine.specs.Set.{setCalls}
+use Rattle.machine.specs.Footnote.{callLabels, countAt, timesAt}
+use Rattle.machine.specs.Totals.{kept}
+use Rattle.kept.specs.declared.Kept.{Kept}
+use Rattle.kept.specs.Kept.{column, setRow, LabelIs, Labels, Calls, tables, Keeps}
+use Rattle.kept.specs.Contracts.{CountsCall, TellsTimes}
+use Rattle.kept.proofs.Lists.{at-index, index-low, one-more, long-more}
+use Rattle.kept.proofs.Rows.{word, long-column, own-column, before-column, long-row, row-column, row-own, row-other}
+use Rattle.kept.proofs.Labels.{labels-more, call-labels-more}
+use Rattle.kept.proofs.Calls.{firstCall, count-new, count-labels, count-long, count-each, times-are}
+
+abbrev pub withCalls : ℕ → Kept → Kept
+withCalls n k = record { end = k .end; definitions = k .definitions; footnotes = k .footnotes; calls = n; labels = k .labels }
+
+calls-set : {k : Kept} {text region d f calls l : List ℕ} {s : State} (calls′ : List ℕ) {cs : List Call} {n : ℕ} → length calls′ ≡ 192 → Calls text calls′ n cs → Keeps k text region (tables d f calls l) s
+    → Keeps (withCalls n k) text region (tables d f calls′ l) (setCalls cs s)
+unfolding kept
+calls-set calls′ e c t = record {
+  long = record { definitions = t .long .definitions; footnotes = t .long .footnotes; calls = e; labels = t .long .labels };
+  end = t .end;
+  definitions = t .definitions;
+  footnotes = t .footnotes;
+  calls = c;
+  labels = t .labels;
+}
+
+module _ {text table : List ℕ} {count : ℕ} {cs : List Call} (t : Calls text table count cs) where
+  pub times-word : (i : ℕ) → i < length cs → getD (column 64 2 table) i 0 ≡ timesAt i cs
+  times-word i h = let q = at-index cs i h in t .each i (q .0) (q .1) ∙ sym (times-are cs i (q .0) (q .1))
+
+  few : count ≤ 64
+  few = let x = t .labels .places .starts-long in let y = length-take 64 table in omega arith
+
+  -- behind the last
+  calls-new : {from to : ℕ} {label : List ℕ} → length table ≡ 192 → count < 64 → LabelIs text from to label
+      → Calls text (setRow 64 count 0 (from ∷ to ∷ 1 ∷ []) table) (count + 1) (cs ++ (firstCall label ∷ []))
+  calls-new {from} {to} {label} e h l = record {
+    rows = ap (λ (n : ℕ). n + 1) (t .rows) ∙ sym (long-more cs (firstCall label));
+    labels = rw (row-column 64 count 0 words table h (omega arith), row-column 64 count 1 words table h (omega arith), call-labels-more cs (firstCall label))
+        (labels-more (rw (long-column 64 0 table (omega arith)) h) (rw (long-column 64 1 table (omega arith)) h) l (t .labels));
+    each = λ j c p. on j c (one-more cs (firstCall label) j c p);
+  }
+    where
+      words : List ℕ
+      words = from ∷ to ∷ 1 ∷ []
+
+      on : (j : ℕ) (c : Call) → (getElem? cs j ≡ some c) ⊎ ((j ≡ length cs) × (firstCall label ≡ c)) → getD (column 64 2 (setRow 64 count 0 words table)) j 0 ≡ c .times
+      on j c (inl q) = let x = index-low cs j c q in let y = t .rows in row-other 64 count 2 words table h (omega arith) j (omega arith) ∙ t .each j c q
+      on j c (inr q) = let y : j ≡ count = q .0 ∙ sym (t .rows) in rw y (row-own 64 count 2 words table h (omega arith) (omega arith)) ∙ ap (λ (x : Call). x .times) (q .1)
+
+  -- once more
+  calls-more : (i : ℕ) (label : List ℕ) → length table ≡ 192 → i < count → Calls text (set table (128 + i) (timesAt i cs + 1)) count (countAt i label cs)
+  calls-more i label e h =
+      let x = few in
+      let z : i < length cs = omega (arith, t .rows) in
+      let y : i < 64 = omega arith in
+      record {
+        rows = t .rows ∙ sym (count-long i label cs z);
+        labels = rw (before-column 64 2 i (timesAt i cs + 1) table y 0 (omega arith), before-column 64 2 i (timesAt i cs + 1) table y 1 (omega arith), count-labels i label cs z) (t .labels);
+        each = λ j c p. rw (own-column 64 2 i (timesAt i cs + 1) table y) (on j c y (count-each i label cs j c z p));
+      }
+    where
+      on : (j : ℕ) (c : Call) → i < 64 → ((j ≡ i → ⊥) × (getElem? cs j ≡ some c)) ⊎ ((j ≡ i) × (c .times ≡ timesAt i cs + 1)) → getD (set (column 64 2 table) i (timesAt i cs + 1)) j 0 ≡ c .times
+      on j c y (inl q) = getD-set-other (column 64 2 table) i j (timesAt i cs + 1) 0 (q .0) ∙ t .each j c (q .1)
+      on j c y (inr q) =
+          let m : length (column 64 2 table) ≡ 64 = long-column 64 2 table (omega arith) in
+          let g : getD (set (column 64 2 table) i (timesAt i cs + 1)) i 0 ≡ timesAt i cs + 1 = getD-set-same (column 64 2 table) i (timesAt i cs + 1) 0 (omega arith) in
+          rw (q .0) g ∙ sym (q .1)
+
+-- ---- what the code does
+
+three-words : (table : List ℕ) (i a b c : ℕ) → set (set (set table i a) (64 + i) b) (128 + i) c ≡ setRow 64 i 0 (a ∷ b ∷ c ∷ []) table
+three-words table i a b c = let e : 0 * 64 + i ≡ i = omega arith in rw e
+
+module _ {k : Kept} {index from to : ℕ} {calls : List ℕ} where
+  pub counts-short : (length calls ≡ 192 → ⊥) → CountsCall k index from to calls k calls
+  counts-short h = record { counts = λ t l i m q. absurd (h (t .long .calls)) }
+
+  pub counts-full : 64 ≤ index → CountsCall k index from to calls k calls
+  counts-full h = record { counts = λ t l i m q. absurd (omega arith) }
+
+  pub counts-many : index < 64 → index < k .calls → 0x1_0000_0000 ≤ getD calls (128 + index) 0 → CountsCall k index from to calls k calls
+  counts-many g h n = record {
+    counts = λ t l i m q. (let e = word 64 2 index calls g in let z = times-word (t .calls) index (omega (arith, t .calls .rows)) in absurd (omega arith));
+  }
+
+  pub counts-more : index < 64 → index < k .calls → CountsCall k index from to calls k (set calls (128 + index) (getD calls (128 + index) 0 + 1))
+  counts-more g h = record {
+    counts = λ {label = label} {s = s} t l i m q.
+        let e : getD calls (128 + index) 0 ≡ timesAt index (s .kept .calls) = sym (word 64 2 index calls g) ∙ times-word (t .calls) index (omega (arith, t .calls .rows)) in
+        rw e (calls-set (set calls (128 + index) (timesAt index (s .kept .calls) + 1)) (length-set calls (128 + index) (timesAt index (s .kept .calls) + 1) ∙ t .long .calls) (calls-more (t .calls) index label (t .long .calls) h) t);
+  }
+
+  pub counts-new : index < 64 → k .calls ≤ index → CountsCall k index from to calls (withCalls (index + 1) k) (set (set (set calls index from) (64 + index) to) (128 + index) 1)
+  counts-new g h = record {
+    counts = λ {label = label} {s = s} t l i m q.
+        let e : index ≡ k .calls = omega (arith, t .calls .rows) in
+        let z : index ≡ length (s .kept .calls) = omega (arith, t .calls .rows) in
+        let n : countAt index label (s .kept .calls) ≡ s .kept .calls ++ (firstCall label ∷ []) = rw z (count-new label (s .kept .calls)) in
+        rw (three-words calls index from to 1, n, e)
+        (calls-set (setRow 64 (k .calls) 0 (from ∷ to ∷ 1 ∷ []) calls) (long-row 64 (k .calls) 0 (from ∷ to ∷ 1 ∷ []) calls ∙ t .long .calls) (calls-new (t .calls) (t .long .calls) (omega arith) l) t);
+  }
+
+pub tells-times : {calls : List ℕ} {index r : ℕ} → r ≡ getD (column 64 2 calls) index 0 → TellsTimes calls index r
+tells-times {index = index} e = record { tells = λ t h. e ∙ times-word (t .calls) index h }

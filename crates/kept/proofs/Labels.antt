@@ -1,0 +1,112 @@
+-- Labels of the text by their places: one more behind the last. Assumes nothing.
+use mathlib.Core.Path.{_≡_, refl, sym, ap, ap₂, _∙_}
+use mathlib.Core.Bool.{Bool, true, false, _&&_}
+use mathlib.Core.List.{List, [], _∷_, _++_}
+use Prim.Native.Nat.{ℕ, zero, suc, _+_, _-_, _≤_, _<_}
+use native.Mathlib.Omega.{arith}
+use native.Mathlib.Numerals.{add-one}
+use native.Mathlib.Decide.{decLt}
+use borrow.Author.Tests.{leb-true}
+use lib.Dec.{leb}
+use lib.ListN.{length, take, drop, set, getD, length-set, length-take}
+use lib.Seq.{take-suc-set, getD-set-same, getD-set-other}
+use Rattle.lent.specs.Bytes.{if_then_else_}
+use Rattle.lent.proofs.Laws.{and-left, and-right}
+use Rattle.utf8.specs.Utf8.{isUtf8}
+use Rattle.normalize_identifier.specs.Search as Search
+use Rattle.normalize_identifier.specs.Search.{parts, labelsOf}
+use Rattle.machine.specs.Outcome.{Outcome, stop, go, _>>=_}
+use Rattle.machine.specs.State.{Span, Definition, Footnote, Call}
+use Rattle.machine.specs.Turn.{sliceOf, asStr, strOf}
+use Rattle.machine.specs.Media.{definitionLabels}
+use Rattle.machine.specs.Footnote.{callLabels}
+use Rattle.machine.specs.Section.{footnoteLabels}
+use Rattle.kept.specs.Kept.{LabelIs, Labels}
+
+-- ---- the machine's slices
+
+stops : {X A : Type 0} {u : A} → stop ≡ go u → X
+stops p = let z : _≡_ {A = ℕ} 0 1 = cc in absurd (omega arith)
+
+slice-is : (text : List ℕ) (p : Span) (label : List ℕ) → sliceOf text p ≡ go label → LabelIs text (p .from) (p .to) label
+unfolding sliceOf
+slice-is text p label q = on (leb (p .from) (p .to) && leb (p .to) (length text)) refl q
+  where
+    on : (x : Bool) → (leb (p .from) (p .to) && leb (p .to) (length text)) ≡ x → (if x then go (take (p .to - p .from) (drop (p .from) text)) else stop) ≡ go label → LabelIs text (p .from) (p .to) label
+    on true i r = record {
+      ordered = leb-true (p .from) (p .to) (and-left (leb (p .from) (p .to)) (leb (p .to) (length text)) i);
+      inside = leb-true (p .to) (length text) (and-right (leb (p .from) (p .to)) (leb (p .to) (length text)) i);
+      is = cc;
+    }
+    on false i r = stops r
+
+str-is : (b label : List ℕ) → asStr b ≡ go label → b ≡ label
+unfolding asStr
+str-is b label q = on (isUtf8 b) q
+  where
+    on : (x : Bool) → (if x then go b else stop) ≡ go label → b ≡ label
+    on true r = cc
+    on false r = stops r
+
+pub label-is : (text : List ℕ) (p : Span) (label : List ℕ) → strOf text p ≡ go label → LabelIs text (p .from) (p .to) label
+unfolding strOf
+label-is text p label q = on (sliceOf text p) refl q
+  where
+    on : (o : Outcome (List ℕ)) → sliceOf text p ≡ o → (o >>= asStr) ≡ go label → LabelIs text (p .from) (p .to) label
+    on stop e r = stops r
+    on (go b) e r = slice-is text p label (e ∙ ap go (str-is b label r))
+
+-- ---- one more label
+
+parts-more : (text xs ys : List ℕ) (a b : ℕ) → length xs ≡ length ys → parts text (xs ++ (a ∷ [])) (ys ++ (b ∷ [])) ≡ parts text xs ys ++ (take (b - a) (drop a text) ∷ [])
+unfolding parts
+parts-more text [] [] a b h = refl
+parts-more text [] (y ∷ ys) a b h = absurd (omega arith)
+parts-more text (x ∷ xs) [] a b h = absurd (omega arith)
+parts-more text (x ∷ xs) (y ∷ ys) a b h = ap (λ (t : List (List ℕ)). take (y - x) (drop x text) ∷ t) (parts-more text xs ys a b (omega arith))
+
+module _ {text from to label : List ℕ} {count a b : ℕ} {labels : List (List ℕ)} (h : count < length from) (k : count < length to) (l : LabelIs text a b label) (r : Labels text from to count labels) where
+  -- a word of the new row, or of an old one
+  word-new : (xs : List ℕ) (v j : ℕ) → count < length xs → j ≡ count → getD (set xs count v) j 0 ≡ v
+  word-new xs v j i e = rw e (getD-set-same xs count v 0 i)
+
+  word-old : (xs : List ℕ) (v j : ℕ) → j < count → getD (set xs count v) j 0 ≡ getD xs j 0
+  word-old xs v j i = getD-set-other xs count j v 0 (λ e. omega arith)
+
+  labels-more-are : labelsOf text (set from count a) (set to count b) (count + 1) ≡ labels ++ (label ∷ [])
+  unfolding labelsOf
+  labels-more-are =
+      let e : length (take count from) ≡ length (take count to) = simp length-take (omega arith) in
+      let x : parts text (take count from) (take count to) ≡ labels = r .are in
+      rw (add-one, take-suc-set from count a h, take-suc-set to count b k, parts-more text (take count from) (take count to) a b e, x, l .is)
+
+  labels-more-places : Search.Table text (set from count a) (set to count b) (count + 1)
+  labels-more-places = record {
+    starts-long = rw length-set (omega arith);
+    ends-long = rw length-set (omega arith);
+    ordered = λ j i. elim (decLt j count) [
+      | yes q ↦ rw (word-old from a j q, word-old to b j q) (r .places .ordered j q)
+      | no q ↦ (let e : j ≡ count = omega arith in rw (word-new from a j h e, word-new to b j k e) (l .ordered))
+    ];
+    inside = λ j i. elim (decLt j count) [
+      | yes q ↦ rw (word-old to b j q) (r .places .inside j q)
+      | no q ↦ (let e : j ≡ count = omega arith in rw (word-new to b j k e) (l .inside))
+    ];
+  }
+
+  pub labels-more : Labels text (set from count a) (set to count b) (count + 1) (labels ++ (label ∷ []))
+  labels-more = record { places = labels-more-places; are = labels-more-are }
+
+-- ---- of each list that has labels
+
+pub definition-labels-more : (ds : List Definition) (d : Definition) → definitionLabels (ds ++ (d ∷ [])) ≡ definitionLabels ds ++ (d .label ∷ [])
+definition-labels-more [] d = refl
+definition-labels-more (x ∷ ds) d = ap (λ (t : List (List ℕ)). x .label ∷ t) (definition-labels-more ds d)
+
+pub footnote-labels-more : (fs : List Footnote) (f : Footnote) → footnoteLabels (fs ++ (f ∷ [])) ≡ footnoteLabels fs ++ (f .label ∷ [])
+footnote-labels-more [] f = refl
+footnote-labels-more (x ∷ fs) f = ap (λ (t : List (List ℕ)). x .label ∷ t) (footnote-labels-more fs f)
+
+pub call-labels-more : (cs : List Call) (c : Call) → callLabels (cs ++ (c ∷ [])) ≡ callLabels cs ++ (c .label ∷ [])
+call-labels-more [] c = refl
+call-labels-more (x ∷ cs) c = ap (λ (t : List (List ℕ)). x .label ∷ t) (call-labels-more cs c)

@@ -1,0 +1,16 @@
+pub mod Rows
+pub mod Lists
+pub mod Labels
+pub mod Pieces
+pub mod Seeks
+pub mod Opens
+pub mod Finds
+pub mod Calls
+pub mod Counts
+pub mod Grows
+pub mod Put
+pub mod Stays
+pub mod Keeping
+pub mod Defining
+pub mod Room
+pub mod Start

@@ -1,0 +1,70 @@
+-- What the functions promise: where the tables stand for a state of the machine, they stand for the next one. Assumes nothing.
+use mathlib.Core.Path.{_≡_}
+use mathlib.Core.List.{List, [], _∷_}
+use Prim.Native.Nat.{ℕ, suc, _+_, _*_, _≤_, _<_}
+use lib.ListN.{length, take, drop}
+use Rattle.regions.specs.Regions.{regionAt, Carries}
+use Rattle.normalize_identifier.specs.declared.Found.{Found}
+use Rattle.normalize_identifier.specs.Search as Search
+use Rattle.normalize_identifier.specs.Search.{labelsOf, firstSame}
+use Rattle.machine.specs.State.{State, Span, Definition, Footnote, Call}
+use Rattle.machine.specs.Set.{setLabels, setCalls, addFootnote, addDefinition}
+use Rattle.machine.specs.Media.{definitionLabels}
+use Rattle.machine.specs.Footnote.{callIndex, countAt, timesAt}
+use Rattle.machine.specs.Totals.{kept}
+use Rattle.kept.specs.declared.Kept.{Kept}
+use Rattle.kept.specs.Kept.{LabelIs, setRow, Piece, Optional, orEmpty, tables, Keeps}
+
+-- ---- labels of open footnotes
+
+pub record OpensLabel (k : Kept) (from to : ℕ) (labels : List ℕ) (r : Kept) (labels′ : List ℕ) : Type 0 where
+  pub opens : {text region d f c : List ℕ} {s : State} → Keeps k text region (tables d f c labels) s → length (s .labels) < 64
+      → Keeps r text region (tables d f c labels′) (setLabels (record { from = from; to = to } ∷ s .labels) s)
+
+-- ---- searches
+
+pub record FindsFirst (text starts ends : List ℕ) (n : ℕ) (label : List ℕ) (r : Found) : Type 0 where
+  pub finds : Search.Table text starts ends n → r ≡ firstSame (labelsOf text starts ends n) label
+
+pub record FindsCall (k : Kept) (text : List ℕ) (from to : ℕ) (calls : List ℕ) (r : ℕ) : Type 0 where
+  pub finds : {region d f l label : List ℕ} {s : State} → Keeps k text region (tables d f calls l) s → LabelIs text from to label → r ≡ callIndex label (s .kept .calls)
+
+pub record FindsDefinition (k : Kept) (text : List ℕ) (from to : ℕ) (definitions : List ℕ) (r : Found) : Type 0 where
+  pub finds : {region f c l label : List ℕ} {s : State} → Keeps k text region (tables definitions f c l) s → kept s ≤ 16384 → LabelIs text from to label
+      → r ≡ firstSame (definitionLabels (s .kept .definitions)) label
+
+-- ---- calls
+
+pub record CountsCall (k : Kept) (index from to : ℕ) (calls : List ℕ) (r : Kept) (calls′ : List ℕ) : Type 0 where
+  pub counts : {text region d f l label : List ℕ} {s : State} → Keeps k text region (tables d f calls l) s → LabelIs text from to label
+      → index ≤ length (s .kept .calls) → index < 64 → timesAt index (s .kept .calls) < 0x1_0000_0000
+      → Keeps r text region (tables d f calls′ l) (setCalls (countAt index label (s .kept .calls)) s)
+
+pub record TellsTimes (calls : List ℕ) (index r : ℕ) : Type 0 where
+  pub tells : {k : Kept} {text region d f l : List ℕ} {s : State} → Keeps k text region (tables d f calls l) s → index < length (s .kept .calls) → r ≡ timesAt index (s .kept .calls)
+
+-- ---- what is kept in bytes
+
+-- a row set, where the table has it
+pub record SetsRow (n i : ℕ) (words table table′ : List ℕ) : Type 0 where
+  pub row : i < n → length words * n ≡ length table → table′ ≡ setRow n i 0 words table
+
+-- the two regions before the kept bytes stay
+pub record KeptIn (r : Kept) (text work work′ definitions footnotes calls labels : List ℕ) (s : State) : Type 0 where
+  pub keeps : Keeps r text (regionAt 32768 work′) (tables definitions footnotes calls labels) s
+  pub before : take 32768 work′ ≡ take 32768 work
+
+pub record KeepsFootnote (k : Kept) (from n : ℕ) (work footnotes labels : List ℕ) (r : Kept) (work′ footnotes′ : List ℕ) : Type 0 where
+  pub keeps : {text d c body label : List ℕ} {p : Span} {ps : List Span} {s : State} → 49152 ≤ length work → Keeps k text (regionAt 32768 work) (tables d footnotes c labels) s
+      → s .labels ≡ p ∷ ps → LabelIs text (p .from) (p .to) label → Piece work 32768 from n body → length (s .kept .footnotes) < 64
+      → KeptIn r text work work′ d footnotes′ c labels (addFootnote (record { label = label; body = body }) (setLabels ps s))
+
+-- nothing is carried for a title that is missing
+pub record CarriesTitle (work : List ℕ) (place title at : ℕ) (work′ : List ℕ) (r : ℕ) : Type 0 where
+  pub missing : title ≡ 0 → (work′ ≡ work) × (r ≡ at)
+  pub there : {n : ℕ} → title ≡ suc n → Carries work place n 32768 at work′ r
+
+pub record KeepsDefinition (k : Kept) (from to place n titlePlace title : ℕ) (work definitions : List ℕ) (r : Kept) (work′ definitions′ : List ℕ) : Type 0 where
+  pub keeps : {text f c l : List ℕ} (d : Definition) {s : State} → 49152 ≤ length work → Keeps k text (regionAt 32768 work) (tables definitions f c l) s
+      → LabelIs text from to (d .label) → Piece work 32768 place n (orEmpty (d .destination)) → Optional work 32768 titlePlace title (d .title) → length (s .kept .definitions) < 128
+      → KeptIn r text work work′ definitions′ f c l (addDefinition d s)

@@ -1,0 +1,323 @@
+// What is kept to the end: definitions, footnotes, calls, and the labels of open footnotes. Counts by value; tables of words and the third region of the work bytes beside them.
+// A table is its columns, one behind the other. Where a table is no table of the right size, or full, a function does nothing.
+ghost use mathlib.Core.Path.{_≡_};
+ghost use mathlib.Core.List.{[], _∷_};
+ghost use lib.ListN.{take, drop, getD};
+ghost use Rattle.kept.specs.Kept.{column};
+ghost use Rattle.kept.specs.Contracts.{OpensLabel, FindsFirst, FindsCall, FindsDefinition, CountsCall, TellsTimes, SetsRow, KeepsFootnote, CarriesTitle, KeepsDefinition};
+use normalize_identifier::Found;
+
+pub struct Kept {
+    // behind the kept bytes, in their region
+    pub end: usize,
+    pub definitions: usize,
+    pub footnotes: usize,
+    pub calls: usize,
+    // of open footnotes
+    pub labels: usize,
+}
+
+// ---- words of a table
+
+// The word in row i of the column of n rows that starts at a place; 0 where there is none.
+fn word(table: &[usize], start: usize, n: usize, i: usize) -> usize
+    ensures { λ r. ⌜ r ≡ getD (take n (drop start (now (table .entry)))) i 0 ⌝ }
+{
+    if n <= i {
+        return 0;
+    }
+    if table.len() <= start {
+        return 0;
+    }
+    if table.len() - start <= i {
+        return 0;
+    }
+    table[start + i]
+}
+
+// Where a definition's destination stands in the kept bytes.
+pub fn definition_place(definitions: &[usize], i: usize) -> usize
+    ensures { λ r. ⌜ r ≡ getD (column 128 2 (now (definitions .entry))) i 0 ⌝ }
+{
+    word(definitions, 256, 128, i)
+}
+
+pub fn definition_length(definitions: &[usize], i: usize) -> usize
+    ensures { λ r. ⌜ r ≡ getD (column 128 3 (now (definitions .entry))) i 0 ⌝ }
+{
+    word(definitions, 384, 128, i)
+}
+
+// 0 without a title, else one more than its length; it stands behind the destination.
+pub fn definition_title(definitions: &[usize], i: usize) -> usize
+    ensures { λ r. ⌜ r ≡ getD (column 128 4 (now (definitions .entry))) i 0 ⌝ }
+{
+    word(definitions, 512, 128, i)
+}
+
+pub fn footnote_place(footnotes: &[usize], i: usize) -> usize
+    ensures { λ r. ⌜ r ≡ getD (column 64 2 (now (footnotes .entry))) i 0 ⌝ }
+{
+    word(footnotes, 128, 64, i)
+}
+
+pub fn footnote_length(footnotes: &[usize], i: usize) -> usize
+    ensures { λ r. ⌜ r ≡ getD (column 64 3 (now (footnotes .entry))) i 0 ⌝ }
+{
+    word(footnotes, 192, 64, i)
+}
+
+// The label's place in the text.
+pub fn call_from(calls: &[usize], i: usize) -> usize
+    ensures { λ r. ⌜ r ≡ getD (column 64 0 (now (calls .entry))) i 0 ⌝ }
+{
+    word(calls, 0, 64, i)
+}
+
+pub fn call_to(calls: &[usize], i: usize) -> usize
+    ensures { λ r. ⌜ r ≡ getD (column 64 1 (now (calls .entry))) i 0 ⌝ }
+{
+    word(calls, 64, 64, i)
+}
+
+// ---- labels of open footnotes
+
+// A footnote is opened.
+pub fn open_label(k: Kept, from: usize, to: usize, labels: &mut [usize]) -> Kept
+    ensures { λ r. ⌜ OpensLabel k from to (now (labels .entry)) r (now (labels .exit)) ⌝ }
+{
+    let i = k.labels;
+    if labels.len() != 128 {
+        return k;
+    }
+    if 64 <= i {
+        return k;
+    }
+    labels[i] = from;
+    labels[64 + i] = to;
+    let mut r = k;
+    r.labels = i + 1;
+    r
+}
+
+// ---- searches
+
+// The first of n labels that has the identity of `label`.
+fn find_first(text: &[u8], starts: &[usize], ends: &[usize], n: usize, label: &[u8]) -> Found
+    ensures { λ r. ⌜ FindsFirst (now (text .entry)) (now (starts .entry)) (now (ends .entry)) n (now (label .entry)) r ⌝ }
+{
+    let mut i: usize = 0;
+    while i < n {
+        if starts.len() <= i {
+            return Found::Nothing;
+        }
+        if ends.len() <= i {
+            return Found::Nothing;
+        }
+        let from = starts[i];
+        let to = ends[i];
+        if to < from {
+            return Found::Nothing;
+        }
+        if text.len() < to {
+            return Found::Nothing;
+        }
+        let entry = &text[from..to];
+        if normalize_identifier::same_identity(entry, label) {
+            return Found::At(i);
+        }
+        i += 1;
+    }
+    Found::Nothing
+}
+
+// The index of the call of a label, or the one behind the last.
+pub fn call_index(k: Kept, text: &[u8], from: usize, to: usize, calls: &[usize]) -> usize
+    ensures { λ r. ⌜ FindsCall k (now (text .entry)) from to (now (calls .entry)) r ⌝ }
+{
+    if calls.len() != 192 {
+        return 0;
+    }
+    if to < from {
+        return 0;
+    }
+    if text.len() < to {
+        return 0;
+    }
+    let n = k.calls;
+    let label = &text[from..to];
+    let starts = &calls[0..64];
+    let ends = &calls[64..128];
+    let found = find_first(text, starts, ends, n, label);
+    match found {
+        Found::At(i) => i,
+        Found::Nothing => n,
+    }
+}
+
+// Where a label is defined: of equal definitions the first counts.
+pub fn find_definition(k: Kept, text: &[u8], from: usize, to: usize, definitions: &[usize]) -> Found
+    ensures { λ r. ⌜ FindsDefinition k (now (text .entry)) from to (now (definitions .entry)) r ⌝ }
+{
+    if definitions.len() != 640 {
+        return Found::Nothing;
+    }
+    if to < from {
+        return Found::Nothing;
+    }
+    if text.len() < to {
+        return Found::Nothing;
+    }
+    let n = k.definitions;
+    let label = &text[from..to];
+    let starts = &definitions[0..128];
+    let ends = &definitions[128..256];
+    find_first(text, starts, ends, n, label)
+}
+
+// ---- calls
+
+// A call at an index is counted; a new one stands behind the last.
+pub fn count_call(k: Kept, index: usize, from: usize, to: usize, calls: &mut [usize]) -> Kept
+    ensures { λ r. ⌜ CountsCall k index from to (now (calls .entry)) r (now (calls .exit)) ⌝ }
+{
+    if calls.len() != 192 {
+        return k;
+    }
+    if 64 <= index {
+        return k;
+    }
+    if index < k.calls {
+        let times = calls[128 + index];
+        if 0x1_0000_0000 <= times {
+            return k;
+        }
+        calls[128 + index] = times + 1;
+        return k;
+    }
+    calls[index] = from;
+    calls[64 + index] = to;
+    calls[128 + index] = 1;
+    let mut r = k;
+    r.calls = index + 1;
+    r
+}
+
+// How often a call was counted.
+pub fn times_at(calls: &[usize], index: usize) -> usize
+    ensures { λ r. ⌜ TellsTimes (now (calls .entry)) index r ⌝ }
+{
+    word(calls, 128, 64, index)
+}
+
+// ---- what is kept in bytes
+
+fn put_footnote(footnotes: &mut [usize], i: usize, from: usize, to: usize, place: usize, n: usize)
+    ensures { λ _. ⌜ SetsRow 64 i (from ∷ to ∷ place ∷ n ∷ []) (now (footnotes .entry)) (now (footnotes .exit)) ⌝ }
+{
+    if footnotes.len() != 256 {
+        return;
+    }
+    if 64 <= i {
+        return;
+    }
+    footnotes[i] = from;
+    footnotes[64 + i] = to;
+    footnotes[128 + i] = place;
+    footnotes[192 + i] = n;
+}
+
+// The newest open footnote ends: n bytes of the work bytes are its body.
+pub fn keep_footnote(
+    k: Kept,
+    from: usize,
+    n: usize,
+    work: &mut [u8],
+    footnotes: &mut [usize],
+    labels: &[usize],
+) -> Kept
+    ensures { λ r. ⌜ KeepsFootnote k from n (now (work .entry)) (now (footnotes .entry)) (now (labels .entry)) r (now (work .exit)) (now (footnotes .exit)) ⌝ }
+{
+    let mut r = k;
+    if k.labels == 0 {
+        return r;
+    }
+    let open = k.labels - 1;
+    r.labels = open;
+    if 16384 < k.end {
+        return r;
+    }
+    let i = k.footnotes;
+    if 64 <= i {
+        return r;
+    }
+    r.end = regions::carry(work, from, n, 32768, k.end);
+    let label_from = word(labels, 0, 64, open);
+    let label_to = word(labels, 64, 64, open);
+    put_footnote(footnotes, i, label_from, label_to, k.end, n);
+    r.footnotes = i + 1;
+    r
+}
+
+fn put_definition(
+    definitions: &mut [usize],
+    i: usize,
+    from: usize,
+    to: usize,
+    place: usize,
+    n: usize,
+    title: usize,
+)
+    ensures { λ _. ⌜ SetsRow 128 i (from ∷ to ∷ place ∷ n ∷ title ∷ []) (now (definitions .entry)) (now (definitions .exit)) ⌝ }
+{
+    if definitions.len() != 640 {
+        return;
+    }
+    if 128 <= i {
+        return;
+    }
+    definitions[i] = from;
+    definitions[128 + i] = to;
+    definitions[256 + i] = place;
+    definitions[384 + i] = n;
+    definitions[512 + i] = title;
+}
+
+// A title goes behind the kept bytes, where there is one.
+fn carry_title(work: &mut [u8], place: usize, title: usize, at: usize) -> usize
+    ensures { λ r. ⌜ CarriesTitle (now (work .entry)) place title at (now (work .exit)) r ⌝ }
+{
+    if title == 0 {
+        return at;
+    }
+    regions::carry(work, place, title - 1, 32768, at)
+}
+
+// Keeps a definition: its label's place in the text, and the places of n bytes of destination and of the title in the work bytes.
+pub fn keep_definition(
+    k: Kept,
+    from: usize,
+    to: usize,
+    place: usize,
+    n: usize,
+    title_place: usize,
+    title: usize,
+    work: &mut [u8],
+    definitions: &mut [usize],
+) -> Kept
+    ensures { λ r. ⌜ KeepsDefinition k from to place n «title_place» title (now (work .entry)) (now (definitions .entry)) r (now (work .exit)) (now (definitions .exit)) ⌝ }
+{
+    if 16384 < k.end {
+        return k;
+    }
+    let i = k.definitions;
+    if 128 <= i {
+        return k;
+    }
+    let mut r = k;
+    let middle = regions::carry(work, place, n, 32768, k.end);
+    r.end = carry_title(work, title_place, title, middle);
+    put_definition(definitions, i, from, to, k.end, n, title);
+    r.definitions = i + 1;
+    r
+}

@@ -1,0 +1,5 @@
+pub mod Quiet
+pub mod Parts
+pub mod Lifts
+pub mod Media
+pub mod Shown
