@@ -42,13 +42,13 @@ module _ {d s e : List ℕ} {at r end end′ : ℕ} (f : Filled d at s e r) (h :
         below = λ z. (let y = x .below z in omega arith);
         bytes = elim (decLe 1 (p .length)) [
           | yes z ↦
-            let y = x .below z in
-            let same : take (p .place + p .length) e ≡ take (p .place + p .length) d = rw (f .bytes) (front-before d at s (p .place + p .length) (omega arith)) in
-            part-of-front (p .place) (p .length) e ∙ ap (drop (p .place)) same ∙ sym (part-of-front (p .place) (p .length) d) ∙ x .bytes
+              let y = x .below z in
+              let same : take (p .place + p .length) e ≡ take (p .place + p .length) d = rw (f .bytes) (front-before d at s (p .place + p .length) (omega arith)) in
+              part-of-front (p .place) (p .length) e ∙ ap (drop (p .place)) same ∙ sym (part-of-front (p .place) (p .length) d) ∙ x .bytes
           | no z ↦
-            let y : p .length ≡ 0 = omega arith in
-            let none-here : take (p .length) (drop (p .place) d) ≡ b = x .bytes in
-            rw y (rw y at none-here)
+              let y : p .length ≡ 0 = omega arith in
+              let none-here : take (p .length) (drop (p .place) d) ≡ b = x .bytes in
+              rw y (rw y at none-here)
         ];
       }
 

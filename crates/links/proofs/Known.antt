@@ -51,11 +51,11 @@ module _ {l : Links} {x : Media} where
   pub emptied : x ≡ withDestination (D.Own (record { place = 0; length = 0 })) (l .media) → Empties l (withMedia x l)
   emptied e = record {
     empties = λ region s m ms q z k. rw e (renewed m (setDestination (own []) m) ms (withDestination (D.Own (record { place = 0; length = 0 })) (l .media)) q refl (omega arith)
-    (λ y. record { labelId = y .labelId; label = y .label; referenceId = y .referenceId; destination = record { long = refl; inside = omega arith; below = λ a. omega arith; bytes = refl }; title = y .title }) k);
+        (λ y. record { labelId = y .labelId; label = y .label; referenceId = y .referenceId; destination = record { long = refl; inside = omega arith; below = λ a. omega arith; bytes = refl }; title = y .title }) k);
   }
 
   pub led : {i : ℕ} → x ≡ withDestination (D.Defined i) (l .media) → Leads i l (withMedia x l)
   led {i} e = record {
     leads = λ region s m ms q z k. rw e (renewed m (setDestination (defined i) m) ms (withDestination (D.Defined i) (l .media)) q refl (rw z)
-    (λ y. record { labelId = y .labelId; label = y .label; referenceId = y .referenceId; destination = refl; title = y .title }) k);
+        (λ y. record { labelId = y .labelId; label = y .label; referenceId = y .referenceId; destination = refl; title = y .title }) k);
   }

@@ -71,8 +71,7 @@ module _ (l : Links) {w w′ : List ℕ} {from n r : ℕ} (c : Carries w from n 
       let z : l .end ≡ min (size (s .waiting .setext) + (partsFrom M.label m + mediaSizes ms)) 16385 = rw p at (k .end) in
       let e = place-after c lw b (size (s .waiting .setext) + (partsFrom M.label m + mediaSizes ms)) z in
       let o = rw p at (k .newest) in
-      let t = rw p at (k .setext) in
-      (
+      let t = rw p at (k .setext) in (
         record {
           long = long-after c lw b;
           images = rw i (rw p at (k .images));
@@ -126,8 +125,7 @@ holds {l} {w} {w′} {from} {n} {r} c = record {
       let y = long-bytes c lw b in
       let e = place-after c lw b 0 (omega arith) in
       let i = k .end in
-      let p : PieceIs (regionAt 16384 w′) r (record { place = 0; length = n }) (take n (drop from w)) = piece-new c lw b (omega arith) in
-      (
+      let p : PieceIs (regionAt 16384 w′) r (record { place = 0; length = n }) (take n (drop from w)) = piece-new c lw b (omega arith) in (
         record {
           long = long-after c lw b;
           images = k .images;

@@ -1,0 +1,3 @@
+pub mod Either
+pub mod Leaves
+pub mod Cells

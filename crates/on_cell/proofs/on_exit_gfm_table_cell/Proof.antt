@@ -1,0 +1,59 @@
+-- By the answer: a capture off, or the cell; then the column.
+use borrow.Author.Needs.{needs}
+use Rattle.on_cell.proofs.on_exit_gfm_table_cell.Statement.{statement}
+use Rattle.on_cell.proofs.on_exit_gfm_table_cell.Tie as tie
+use Rattle.machine.specs.OnTable.{onExitGfmTableCell}
+use Rattle.context.proofs.Commands.{sets, whether-no}
+use Rattle.context.proofs.Slices.{takes-seq}
+use Rattle.on_cell.proofs.Either.{ends, takes-yes, takes-none}
+
+is-past-columns-requires : tie.Need-is-past-columns-requires
+is-past-columns-requires c κs = search needs
+
+drop-requires : tie.Need-drop-requires
+drop-requires c κs = search needs
+
+next-column-requires : tie.Need-next-column-requires
+next-column-requires c κs = search needs
+
+returns : tie.Need-returns
+unfolding onExitGfmTableCell
+returns c =
+    let c3 = c in
+    let c2 = c3 .before in
+    let c1 = c2 .before .before in
+    takes-seq (takes-yes (c1 .is-past-columns .ensures) (search needs) (ends (c2 .drop .ensures))) (sets (c3 .next-column .ensures))
+
+close-cell-requires : tie.Need-close-cell-requires
+close-cell-requires c κs = search needs
+
+next-column-requires-2 : tie.Need-next-column-requires-2
+next-column-requires-2 c κs = search needs
+
+same-length : tie.Need-same-length
+same-length c = search needs
+
+same-length-2 : tie.Need-same-length-2
+same-length-2 c = search needs
+
+returns-2 : tie.Need-returns-2
+unfolding onExitGfmTableCell
+returns-2 c =
+    let c3 = c in
+    let c2 = c3 .before .before .before .before .before in
+    let c1 = c2 .before .before .before .before in
+    takes-seq (takes-none (whether-no (c1 .is-past-columns .ensures) (search needs) (c2 .close-cell .ensures))) (sets (c3 .next-column2 .ensures))
+
+pub on-exit-gfm-table-cell-spec : {M : Type 1} → statement M
+on-exit-gfm-table-cell-spec =
+    tie.close
+    (tie.spec
+    is-past-columns-requires
+    drop-requires
+    next-column-requires
+    returns
+    close-cell-requires
+    next-column-requires-2
+    same-length
+    same-length-2
+    returns-2)
