@@ -84,7 +84,8 @@ pub fn push_url(
     r
 }
 
-fn put_url(out: &mut [u8], at: usize, s: &[u8], options: Options, image: bool) -> usize
+// The same, appended to a lent buffer.
+pub fn put_url(out: &mut [u8], at: usize, s: &[u8], options: Options, image: bool) -> usize
     ensures { λ r. ⌜ Filled (now (out .entry)) at (urlOf options image (now (s .entry))) (now (out .exit)) r ⌝ }
 {
     if options.allow_dangerous_protocol {

@@ -23,13 +23,13 @@ flat-long [] = refl
 flat-long (c ∷ cs) = let a = length-append (flat cs) c in let b = flat-long cs in omega arith
 
 -- where each stands
-record Places (b : Whole) (room : ℕ) (s : State) : Type 0 where
+pub record Places (b : Whole) (room : ℕ) (s : State) : Type 0 where
   pub captures : b .context .buffers .end ≡ min (captured s) 16385
   pub held-is : b .links .end ≡ min (held s) 16385
   pub kept-is : b .kept .end ≡ min (kept s) 16385
   pub page : b .context .buffers .page ≡ min (length (s .page)) (room + 1)
 
-placed : (text : List ℕ) (b : Whole) (w : World) (s : State) (room : ℕ) → length (w .out) ≡ room → Built text b w s → Places b room s
+pub placed : (text : List ℕ) (b : Whole) (w : World) (s : State) (room : ℕ) → length (w .out) ≡ room → Built text b w s → Places b room s
 unfolding captured
 placed text b w s room h y =
     let n = front-long (w .work) (y .long) in

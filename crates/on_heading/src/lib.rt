@@ -1,0 +1,126 @@
+// Handlers of atx headings and of lines of code, by their Rust names.
+ghost use Rattle.machine.specs.Command.{chunk, rank, keepRank};
+ghost use Rattle.machine.specs.OnFlow.{onExitHeadingAtxSequence, onExitHeadingAtx, onExitRawFlowChunk};
+ghost use Rattle.context.specs.Rel.{Any, Sees, Keeps, SetsFor};
+use context::Answer;
+use context::Context;
+use context::Number;
+use context::Waiting;
+use event::Event;
+
+// ---- headings
+
+// The rank of a heading is the length of its sequence.
+fn keep_rank(c: Context, text: &[u8], e: Event) -> Context
+    ensures { λ r. ⌜ SetsFor (Sees (now (text .entry)) e) keepRank c r ⌝ }
+{
+    let from = e.from.0;
+    let to = e.to.0;
+    if to < from {
+        return c;
+    }
+    if text.len() < to {
+        return c;
+    }
+    let mut r = c;
+    let w = c.waiting;
+    let seen = w.seen;
+    let fences = w.fences;
+    let marker = w.marker;
+    let first = w.first;
+    let waiting = Waiting {
+        rank: Number::Is(to - from),
+        seen,
+        fences,
+        marker,
+        first,
+    };
+    r.waiting = waiting;
+    r
+}
+
+// The rank that waits, in decimal.
+fn push_rank(c: Context, captures: &mut [u8], out: &mut [u8]) -> Context
+    ensures { λ r. ⌜ Keeps Any rank c (now (captures .entry)) (now (out .entry)) r (now (captures .exit)) (now (out .exit)) ⌝ }
+{
+    let w = c.waiting;
+    let x = w.rank;
+    let Number::Is(n) = x else {
+        return c;
+    };
+    let mut r = c;
+    r.buffers = pieces::push_decimal(c.buffers, captures, out, n);
+    r
+}
+
+// The first sequence gives the rank.
+pub fn on_exit_heading_atx_sequence(
+    c: Context,
+    text: &[u8],
+    e: Event,
+    captures: &mut [u8],
+    out: &mut [u8],
+) -> Context
+    ensures { λ r. ⌜ Keeps (Sees (now (text .entry)) e) onExitHeadingAtxSequence c (now (captures .entry)) (now (out .entry)) r (now (captures .exit)) (now (out .exit)) ⌝ }
+{
+    if context::has_rank(c) {
+        return c;
+    }
+    let line = context::line_ending_if_needed(c, captures, out);
+    let ranked = keep_rank(line, text, e);
+    let begun = context::push(ranked, captures, out, b"<h");
+    let r = push_rank(begun, captures, out);
+    context::push(r, captures, out, b">")
+}
+
+pub fn on_exit_heading_atx(c: Context, captures: &mut [u8], out: &mut [u8]) -> Context
+    ensures { λ r. ⌜ Keeps Any onExitHeadingAtx c (now (captures .entry)) (now (out .entry)) r (now (captures .exit)) (now (out .exit)) ⌝ }
+{
+    let begun = context::push(c, captures, out, b"</h");
+    let ranked = push_rank(begun, captures, out);
+    let r = context::push(ranked, captures, out, b">");
+    context::forget_rank(r)
+}
+
+// ---- code
+
+// The event's slice between its virtual spaces, encoded where the flag says so.
+fn push_chunk(c: Context, text: &[u8], e: Event, captures: &mut [u8], out: &mut [u8]) -> Context
+    ensures { λ r. ⌜ Keeps (Sees (now (text .entry)) e) chunk c (now (captures .entry)) (now (out .entry)) r (now (captures .exit)) (now (out .exit)) ⌝ }
+{
+    let from = e.from.0;
+    let to = e.to.0;
+    if to < from {
+        return c;
+    }
+    if text.len() < to {
+        return c;
+    }
+    let mut r = c;
+    let encoding = c.flags.encode;
+    let before = e.before;
+    let after = e.after;
+    r.buffers = pieces::push_padded(
+        c.buffers,
+        captures,
+        out,
+        before,
+        &text[from..to],
+        after,
+        encoding,
+    );
+    r
+}
+
+pub fn on_exit_raw_flow_chunk(
+    c: Context,
+    text: &[u8],
+    e: Event,
+    captures: &mut [u8],
+    out: &mut [u8],
+) -> Context
+    ensures { λ r. ⌜ Keeps (Sees (now (text .entry)) e) onExitRawFlowChunk c (now (captures .entry)) (now (out .entry)) r (now (captures .exit)) (now (out .exit)) ⌝ }
+{
+    let r = context::set_seen(c, Answer::Yes);
+    push_chunk(r, text, e, captures, out)
+}

@@ -1,0 +1,198 @@
+// Handlers of character references, code text and autolinks, by their Rust names.
+ghost use mathlib.Core.Path.{_≡_};
+ghost use Rattle.machine.specs.Set.{alt};
+ghost use Rattle.machine.specs.Test.{is};
+ghost use Rattle.machine.specs.Command.{_▸_, unless, put, slice, tag, url, resumeCode};
+ghost use Rattle.machine.specs.OnText.{onExitCharacterReferenceValue, onExitRawText, onExitAutolinkEmail, onExitAutolinkProtocol};
+ghost use Rattle.context.specs.Rel.{Any, Sees, Keeps, Takes};
+ghost use Rattle.on_inline.specs.View.{SeesWith};
+ghost use Rattle.on_inline.specs.Private.{unmarked};
+use context::Context;
+use context::Mark;
+use context::Waiting;
+use event::Event;
+use machine::Options;
+
+// ---- character references
+
+fn forget_marker(c: Context) -> Context
+    ensures { λ r. ⌜ r ≡ unmarked c ⌝ }
+{
+    let mut r = c;
+    let w = c.waiting;
+    let rank = w.rank;
+    let seen = w.seen;
+    let fences = w.fences;
+    let first = w.first;
+    let waiting = Waiting {
+        rank,
+        seen,
+        fences,
+        marker: Mark::Unset,
+        first,
+    };
+    r.waiting = waiting;
+    r
+}
+
+// By the marker that waits, which is taken.
+pub fn on_exit_character_reference_value(
+    c: Context,
+    text: &[u8],
+    e: Event,
+    captures: &mut [u8],
+    out: &mut [u8],
+) -> Context
+    ensures { λ r. ⌜ Keeps (Sees (now (text .entry)) e) onExitCharacterReferenceValue c (now (captures .entry)) (now (out .entry)) r (now (captures .exit)) (now (out .exit)) ⌝ }
+{
+    let from = e.from.0;
+    let to = e.to.0;
+    if to < from {
+        return c;
+    }
+    if text.len() < to {
+        return c;
+    }
+    let w = c.waiting;
+    let x = w.marker;
+    let Mark::Is(m) = x else {
+        return c;
+    };
+    let mut r = forget_marker(c);
+    let encoding = c.flags.encode;
+    r.buffers = pieces::push_reference(c.buffers, captures, out, m, &text[from..to], encoding);
+    r
+}
+
+// ---- code text
+
+// What was captured, as code.
+fn resume_code(c: Context, captures: &mut [u8], starts: &[usize], out: &mut [u8]) -> Context
+    ensures { λ r. ⌜ Takes Any resumeCode c (now (captures .entry)) (now (starts .entry)) (now (out .entry)) r (now (captures .exit)) (now (out .exit)) ⌝ }
+{
+    let mut r = c;
+    let inside = c.table.inside;
+    r.buffers = resume::resume_code(c.buffers, captures, starts, out, inside);
+    r
+}
+
+pub fn on_exit_raw_text(
+    c: Context,
+    captures: &mut [u8],
+    starts: &[usize],
+    out: &mut [u8],
+) -> Context
+    ensures { λ r. ⌜ Takes Any onExitRawText c (now (captures .entry)) (now (starts .entry)) (now (out .entry)) r (now (captures .exit)) (now (out .exit)) ⌝ }
+{
+    let code = resume_code(c, captures, starts, out);
+    let r = context::set_raw(code, false);
+    context::push_tag(r, captures, out, b"</code>")
+}
+
+// ---- autolinks
+
+// The event's slice as a URL, made safe as the options say.
+fn push_url(
+    c: Context,
+    text: &[u8],
+    e: Event,
+    options: Options,
+    captures: &mut [u8],
+    out: &mut [u8],
+) -> Context
+    ensures { λ r. ⌜ Keeps (SeesWith (now (text .entry)) e options) (url "") c (now (captures .entry)) (now (out .entry)) r (now (captures .exit)) (now (out .exit)) ⌝ }
+{
+    let from = e.from.0;
+    let to = e.to.0;
+    if to < from {
+        return c;
+    }
+    if text.len() < to {
+        return c;
+    }
+    let mut r = c;
+    r.buffers = pieces::push_url(c.buffers, captures, out, &text[from..to], options, false);
+    r
+}
+
+// The event's slice as an address, which is safe whatever the options are.
+fn push_mail(c: Context, text: &[u8], e: Event, captures: &mut [u8], out: &mut [u8]) -> Context
+    ensures { λ r. ⌜ Keeps (Sees (now (text .entry)) e) (url "mailto:") c (now (captures .entry)) (now (out .entry)) r (now (captures .exit)) (now (out .exit)) ⌝ }
+{
+    let from = e.from.0;
+    let to = e.to.0;
+    if to < from {
+        return c;
+    }
+    if text.len() < to {
+        return c;
+    }
+    let mut r = c;
+    r.buffers = pieces::push_mail(c.buffers, captures, out, &text[from..to]);
+    r
+}
+
+// In an image's text there is no tag.
+fn begin_protocol(
+    c: Context,
+    text: &[u8],
+    e: Event,
+    options: Options,
+    captures: &mut [u8],
+    out: &mut [u8],
+) -> Context
+    ensures { λ r. ⌜ Keeps (SeesWith (now (text .entry)) e options) (unless (is alt) (put "<a href=\"" ▸ url "" ▸ put "\">")) c (now (captures .entry)) (now (out .entry)) r (now (captures .exit)) (now (out .exit)) ⌝ }
+{
+    if c.flags.alt {
+        return c;
+    }
+    let begun = context::push(c, captures, out, b"<a href=\"");
+    let r = push_url(begun, text, e, options, captures, out);
+    context::push(r, captures, out, b"\">")
+}
+
+fn begin_email(c: Context, text: &[u8], e: Event, captures: &mut [u8], out: &mut [u8]) -> Context
+    ensures { λ r. ⌜ Keeps (Sees (now (text .entry)) e) (unless (is alt) (put "<a href=\"" ▸ url "mailto:" ▸ put "\">")) c (now (captures .entry)) (now (out .entry)) r (now (captures .exit)) (now (out .exit)) ⌝ }
+{
+    if c.flags.alt {
+        return c;
+    }
+    let begun = context::push(c, captures, out, b"<a href=\"");
+    let r = push_mail(begun, text, e, captures, out);
+    context::push(r, captures, out, b"\">")
+}
+
+// The text of either is its slice.
+fn end_autolink(c: Context, text: &[u8], e: Event, captures: &mut [u8], out: &mut [u8]) -> Context
+    ensures { λ r. ⌜ Keeps (Sees (now (text .entry)) e) (slice ▸ tag "</a>") c (now (captures .entry)) (now (out .entry)) r (now (captures .exit)) (now (out .exit)) ⌝ }
+{
+    let r = context::push_slice(c, text, e, captures, out);
+    context::push_tag(r, captures, out, b"</a>")
+}
+
+pub fn on_exit_autolink_email(
+    c: Context,
+    text: &[u8],
+    e: Event,
+    captures: &mut [u8],
+    out: &mut [u8],
+) -> Context
+    ensures { λ r. ⌜ Keeps (Sees (now (text .entry)) e) onExitAutolinkEmail c (now (captures .entry)) (now (out .entry)) r (now (captures .exit)) (now (out .exit)) ⌝ }
+{
+    let r = begin_email(c, text, e, captures, out);
+    end_autolink(r, text, e, captures, out)
+}
+
+pub fn on_exit_autolink_protocol(
+    c: Context,
+    text: &[u8],
+    e: Event,
+    options: Options,
+    captures: &mut [u8],
+    out: &mut [u8],
+) -> Context
+    ensures { λ r. ⌜ Keeps (SeesWith (now (text .entry)) e options) onExitAutolinkProtocol c (now (captures .entry)) (now (out .entry)) r (now (captures .exit)) (now (out .exit)) ⌝ }
+{
+    let r = begin_protocol(c, text, e, options, captures, out);
+    end_autolink(r, text, e, captures, out)
+}
