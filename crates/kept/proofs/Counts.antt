@@ -1,5 +1,5 @@
 -- The table of calls when one is counted. Assumes nothing.
-use mathlib.Core.Path.{_≡_, refl, sym, ap, _∙_}
+use mathlib.Core.Path.{_≡_, sym, ap, _∙_}
 use mathlib.Core.List.{List, [], _∷_, _++_}
 use mathlib.Core.Option.{some}
 use mathlib.Core.Logic.{_⊎_, inl, inr}
@@ -9,11 +9,12 @@ use lib.ListN.{length, set, getD, getElem?, length-set, length-take}
 use lib.Seq.{getD-set-same, getD-set-other}
 use Rattle.machine.specs.State.{State, Call}
 use Rattle.machine.specs.Set.{setCalls}
-use Rattle.machine.specs.Footnote.{callLabels, countAt, timesAt}
+use Rattle.machine.specs.Footnote.{countAt, timesAt}
 use Rattle.machine.specs.Totals.{kept}
 use Rattle.kept.specs.declared.Kept.{Kept}
-use Rattle.kept.specs.Kept.{column, setRow, LabelIs, Labels, Calls, tables, Keeps}
+use Rattle.kept.specs.Kept.{column, LabelIs, Calls, tables, Keeps}
 use Rattle.kept.specs.Contracts.{CountsCall, TellsTimes}
+use Rattle.kept.specs.Private.{setRow}
 use Rattle.kept.proofs.Lists.{at-index, index-low, one-more, long-more}
 use Rattle.kept.proofs.Rows.{word, long-column, own-column, before-column, long-row, row-column, row-own, row-other}
 use Rattle.kept.proofs.Labels.{labels-more, call-labels-more}

@@ -5,11 +5,11 @@ use Prim.Native.Nat.{ℕ, _+_, _≤_, _<_, min}
 use native.Mathlib.Omega.{arith}
 use lib.ListN.{length}
 use Rattle.regions.specs.Regions.{regionAt, Carries}
-use Rattle.machine.specs.State.{State, Definition}
 use Rattle.machine.specs.Totals.{kept}
 use Rattle.kept.specs.declared.Kept.{Kept}
 use Rattle.kept.specs.Kept.{Piece, Optional, orEmpty}
-use Rattle.kept.specs.Contracts.{SetsRow, CarriesTitle, KeepsDefinition}
+use Rattle.kept.specs.Contracts.{KeepsDefinition}
+use Rattle.kept.specs.Private.{SetsRow, CarriesTitle}
 use Rattle.kept.proofs.Rows.{long-row}
 use Rattle.kept.proofs.Pieces.{piece-stays}
 use Rattle.kept.proofs.Grows.{kept-definition, long-region, front, end-is, appended, Carrying, carrying, title-carrying, optional-before, title-appended}

@@ -1,45 +1,24 @@
 -- What is found in the tables is found in the machine's lists. Assumes nothing.
-use mathlib.Core.Path.{_≡_, refl, sym, ap, ap₂, _∙_}
+use mathlib.Core.Path.{_≡_, sym, ap, _∙_}
 use mathlib.Core.List.{List}
-use Prim.Native.Nat.{ℕ, _-_, _≤_, _<_}
-use native.Mathlib.Omega.{arith}
-use lib.ListN.{length, take, drop}
+use Prim.Native.Nat.{ℕ}
+use lib.ListN.{length}
 use Rattle.normalize_identifier.specs.declared.Found.{Found}
 use Rattle.normalize_identifier.specs.declared.Found.the-variants.{At, Nothing}
-use Rattle.normalize_identifier.specs.Search.{firstSame}
-use Rattle.machine.specs.Footnote.{atOr, callLabels}
+use Rattle.machine.specs.Footnote.{atOr}
 use Rattle.kept.specs.declared.Kept.{Kept}
-use Rattle.kept.specs.Kept.{column, LabelIs, Labels}
-use Rattle.kept.specs.Contracts.{FindsFirst, FindsCall, FindsDefinition}
+use Rattle.kept.specs.Contracts.{FindsCall, FindsDefinition, FindsFootnote}
+use Rattle.kept.specs.Private.{FindsLabel}
 
-found-is : {text from to label : List ℕ} {count a b : ℕ} {labels : List (List ℕ)} {found : Found} → FindsFirst text from to count (take (b - a) (drop a text)) found → Labels text from to count labels → LabelIs text a b label → found ≡ firstSame labels label
-found-is g r l = g .finds (r .places) ∙ ap₂ firstSame (r .are) (l .is)
+module _ {k : Kept} {text table : List ℕ} {from to : ℕ} {found : Found} where
+  pub call-found : {i : ℕ} → FindsLabel text from to table 64 (k .calls) found → found ≡ At i → FindsCall k text from to table i
+  call-found g e = record { finds = λ {s = s} t l. ap (atOr (length (s .kept .calls))) (sym e ∙ g .finds (t .calls .labels) l) }
 
-module _ {k : Kept} {text calls : List ℕ} {from to : ℕ} where
-  pub call-short : (length calls ≡ 192 → ⊥) → {r : ℕ} → FindsCall k text from to calls r
-  call-short h = record { finds = λ t l. absurd (h (t .long .calls)) }
+  pub call-new : FindsLabel text from to table 64 (k .calls) found → found ≡ Nothing → FindsCall k text from to table (k .calls)
+  call-new g e = record { finds = λ {s = s} t l. t .calls .rows ∙ ap (atOr (length (s .kept .calls))) (sym e ∙ g .finds (t .calls .labels) l) }
 
-  pub call-unordered : to < from → {r : ℕ} → FindsCall k text from to calls r
-  call-unordered h = record { finds = λ t l. absurd (omega (arith, l .ordered)) }
+  pub definition-found : FindsLabel text from to table 128 (k .definitions) found → FindsDefinition k text from to table found
+  definition-found g = record { finds = λ t m l. g .finds ((t .definitions m) .labels) l }
 
-  pub call-outside : length text < to → {r : ℕ} → FindsCall k text from to calls r
-  call-outside h = record { finds = λ t l. absurd (omega (arith, l .inside)) }
-
-  pub call-found : {found : Found} {i : ℕ} → FindsFirst text (column 64 0 calls) (column 64 1 calls) (k .calls) (take (to - from) (drop from text)) found → found ≡ At i → FindsCall k text from to calls i
-  call-found g e = record { finds = λ {s = s} t l. ap (atOr (length (s .kept .calls))) (sym e ∙ found-is g (t .calls .labels) l) }
-
-  pub call-new : {found : Found} → FindsFirst text (column 64 0 calls) (column 64 1 calls) (k .calls) (take (to - from) (drop from text)) found → found ≡ Nothing → FindsCall k text from to calls (k .calls)
-  call-new g e = record { finds = λ {s = s} t l. t .calls .rows ∙ ap (atOr (length (s .kept .calls))) (sym e ∙ found-is g (t .calls .labels) l) }
-
-module _ {k : Kept} {text definitions : List ℕ} {from to : ℕ} where
-  pub definition-short : (length definitions ≡ 640 → ⊥) → {r : Found} → FindsDefinition k text from to definitions r
-  definition-short h = record { finds = λ t m l. absurd (h (t .long .definitions)) }
-
-  pub definition-unordered : to < from → {r : Found} → FindsDefinition k text from to definitions r
-  definition-unordered h = record { finds = λ t m l. absurd (omega (arith, l .ordered)) }
-
-  pub definition-outside : length text < to → {r : Found} → FindsDefinition k text from to definitions r
-  definition-outside h = record { finds = λ t m l. absurd (omega (arith, l .inside)) }
-
-  pub definition-found : {found : Found} → FindsFirst text (column 128 0 definitions) (column 128 1 definitions) (k .definitions) (take (to - from) (drop from text)) found → FindsDefinition k text from to definitions found
-  definition-found g = record { finds = λ t m l. found-is g ((t .definitions m) .labels) l }
+  pub footnote-found : FindsLabel text from to table 64 (k .footnotes) found → FindsFootnote k text from to table found
+  footnote-found g = record { finds = λ t m l. g .finds ((t .footnotes m) .labels) l }

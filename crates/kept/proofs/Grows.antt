@@ -1,12 +1,12 @@
 -- The kept bytes when some are appended: the end, the total, what stood. Assumes nothing.
-use mathlib.Core.Path.{_≡_, refl, sym, ap, _∙_}
+use mathlib.Core.Path.{_≡_, refl, ap, _∙_}
 use mathlib.Core.List.{List, [], _∷_, _++_}
 use mathlib.Core.Option.{Option, none, some}
 use mathlib.Core.Logic.{inl}
 use Prim.Native.Nat.{ℕ, zero, suc, _+_, _≤_, min}
 use native.Mathlib.Omega.{arith}
-use lib.ListN.{length, take, drop, length-take, length-drop}
-use Rattle.lent.specs.Fill.{fill, Filled}
+use lib.ListN.{length, take, length-take, length-drop}
+use Rattle.lent.specs.Fill.{Filled}
 use Rattle.lent.proofs.Laws.{front-before}
 use Rattle.lent.proofs.Laws as Lent
 use Rattle.regions.specs.Regions.{regionAt, Carried, Carries}
@@ -14,7 +14,7 @@ use Rattle.machine.specs.State.{State, Span, Definition, Footnote}
 use Rattle.machine.specs.Set.{setLabels, addDefinition, addFootnote}
 use Rattle.machine.specs.Totals.{size, definitionSizes, footnoteSizes, kept}
 use Rattle.kept.specs.Kept.{Piece, Optional, orEmpty}
-use Rattle.kept.specs.Contracts.{CarriesTitle}
+use Rattle.kept.specs.Private.{CarriesTitle}
 use Rattle.kept.proofs.Lists.{part-same}
 use Rattle.kept.proofs.Pieces.{piece-new}
 

@@ -1,15 +1,16 @@
 -- A footnote is kept. Assumes nothing.
 use mathlib.Core.Path.{_≡_, refl, sym, ap, _∙_}
-use mathlib.Core.List.{List, [], _∷_, _++_}
-use Prim.Native.Nat.{ℕ, suc, _+_, _-_, _≤_, _<_, min}
+use mathlib.Core.List.{List, [], _∷_}
+use Prim.Native.Nat.{ℕ, _+_, _-_, _≤_, _<_, min}
 use native.Mathlib.Omega.{arith}
-use lib.ListN.{length, take, drop, getD}
+use lib.ListN.{length, getD}
 use Rattle.regions.specs.Regions.{regionAt, Carries}
 use Rattle.machine.specs.State.{State, Span, Footnote}
 use Rattle.machine.specs.Totals.{kept}
 use Rattle.kept.specs.declared.Kept.{Kept}
 use Rattle.kept.specs.Kept.{column, Opened, tables, Keeps}
-use Rattle.kept.specs.Contracts.{SetsRow, KeepsFootnote}
+use Rattle.kept.specs.Contracts.{KeepsFootnote}
+use Rattle.kept.specs.Private.{SetsRow}
 use Rattle.kept.proofs.Rows.{long-row}
 use Rattle.kept.proofs.Opens.{withLabels}
 use Rattle.kept.proofs.Grows.{kept-footnote, long-region, front, end-is, appended, carrying}

@@ -14,3 +14,4 @@ pub mod Keeping
 pub mod Defining
 pub mod Room
 pub mod Start
+pub mod Read

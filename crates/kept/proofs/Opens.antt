@@ -1,15 +1,15 @@
 -- A footnote's label is opened. Assumes nothing.
-use mathlib.Core.Path.{_≡_, refl, sym, ap, _∙_}
+use mathlib.Core.Path.{_≡_, sym, _∙_}
 use mathlib.Core.List.{List, [], _∷_}
-use Prim.Native.Nat.{ℕ, suc, _+_, _*_, _≤_, _<_}
+use Prim.Native.Nat.{ℕ, _+_, _*_, _≤_, _<_}
 use native.Mathlib.Omega.{arith}
-use lib.ListN.{length, set, getD}
-use Rattle.machine.specs.State.{State, Span}
-use Rattle.machine.specs.Set.{setLabels}
+use lib.ListN.{length, set}
+use Rattle.machine.specs.State.{Span}
 use Rattle.machine.specs.Totals.{kept}
 use Rattle.kept.specs.declared.Kept.{Kept}
-use Rattle.kept.specs.Kept.{column, setRow, OpenLabels, Opened, tables, Keeps}
+use Rattle.kept.specs.Kept.{OpenLabels, Opened}
 use Rattle.kept.specs.Contracts.{OpensLabel}
+use Rattle.kept.specs.Private.{setRow}
 use Rattle.kept.proofs.Rows.{long-row, row-own, row-other}
 
 abbrev pub withLabels : ℕ → Kept → Kept

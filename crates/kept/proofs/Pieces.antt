@@ -1,15 +1,15 @@
 -- Pieces of a region: those that stand stay when bytes are appended, which are a piece themselves. Assumes nothing.
-use mathlib.Core.Path.{_≡_, refl, sym, ap, ap₂, _∙_}
-use mathlib.Core.List.{List, [], _∷_, _++_}
+use mathlib.Core.Path.{_≡_, sym, ap, _∙_}
+use mathlib.Core.List.{List, [], _++_}
 use mathlib.Core.Option.{Option, none, some}
-use Prim.Native.Nat.{ℕ, zero, suc, _+_, _-_, _≤_, _<_}
+use Prim.Native.Nat.{ℕ, zero, suc, _+_, _≤_}
 use native.Mathlib.Omega.{arith}
 use lib.ListN.{length, take, drop, length-take}
 use lib.Seq.{take-add, drop-at}
 use Rattle.lent.specs.Fill.{fill}
 use Rattle.lent.proofs.Laws.{front-before, take-fill}
 use Rattle.kept.specs.Kept.{Piece, Optional}
-use Rattle.kept.proofs.Lists.{part-before, part-same}
+use Rattle.kept.proofs.Lists.{part-same}
 
 pub piece-stays : (region region′ : List ℕ) (end end′ : ℕ) {b : List ℕ} {place n : ℕ} → take end region′ ≡ take end region → end ≤ end′ → Piece region end place n b → Piece region′ end′ place n b
 piece-stays region region′ end end′ {place = place} {n = n} e h p =

@@ -1,11 +1,11 @@
 -- Rows as the code writes them, and a title carried. Assumes nothing.
 use mathlib.Core.Path.{_≡_, refl, sym}
 use mathlib.Core.List.{List, [], _∷_}
-use Prim.Native.Nat.{ℕ, suc, _+_, _-_, _*_, _≤_, _<_}
+use Prim.Native.Nat.{ℕ, _+_, _-_, _*_, _≤_}
 use native.Mathlib.Omega.{arith}
 use lib.ListN.{length, set}
 use Rattle.regions.specs.Regions.{Carries}
-use Rattle.kept.specs.Contracts.{SetsRow, CarriesTitle}
+use Rattle.kept.specs.Private.{SetsRow, CarriesTitle}
 
 pub no-table : {n i : ℕ} {words table : List ℕ} → (length table ≡ length words * n → ⊥) → SetsRow n i words table table
 no-table h = record { row = λ l e. absurd (h (sym e)) }

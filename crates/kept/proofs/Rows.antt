@@ -1,14 +1,13 @@
 -- Tables of columns: what a word set in one row is to each column. Assumes nothing.
 use mathlib.Core.Path.{_≡_, refl, sym, ap, _∙_}
 use mathlib.Core.List.{List, [], _∷_}
-use mathlib.Core.Logic.{_⊎_, inl, inr}
 use Prim.Native.Nat.{ℕ, zero, suc, _+_, _-_, _*_, _≤_, _<_}
 use native.Mathlib.Nat.{mul-le-mul-right, suc-mul}
 use native.Mathlib.Omega.{arith}
-use native.Mathlib.Decide.{decLt}
 use lib.ListN.{length, take, drop, set, getD, length-set, length-take, length-drop, List·getD-eq-default}
 use lib.Seq.{getD-set-same, getD-set-other, getD-take, getD-drop, drop-set-lt, drop-set-add, take-set-le, take-set-lt}
-use Rattle.kept.specs.Kept.{column, setRow}
+use Rattle.kept.specs.Kept.{column}
+use Rattle.kept.specs.Private.{setRow}
 
 -- a column's word is the table's
 pub word : (n k i : ℕ) (table : List ℕ) → i < n → getD (column n k table) i 0 ≡ getD table (k * n + i) 0

@@ -1,9 +1,9 @@
 -- For callers: nothing is kept at the start, what stands for a state stands for one that keeps the same, and a region's piece is one of the work bytes. Assumes nothing.
-use mathlib.Core.Path.{_≡_, refl, sym, ap, ap₂, _∙_}
+use mathlib.Core.Path.{_≡_, refl, sym, ap, _∙_}
 use mathlib.Core.List.{List, []}
-use Prim.Native.Nat.{ℕ, _+_, _≤_, min}
+use Prim.Native.Nat.{ℕ, _+_, _≤_}
 use native.Mathlib.Omega.{arith}
-use lib.ListN.{length, take, drop}
+use lib.ListN.{take, drop}
 use lib.Seq.{drop-drop}
 use Rattle.normalize_identifier.specs.Search.{parts, labelsOf}
 use Rattle.regions.specs.Regions.{regionAt}

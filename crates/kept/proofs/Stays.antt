@@ -1,5 +1,5 @@
 -- Definitions and footnotes when bytes are appended behind the kept ones: those that stand stay, and one more is added. Assumes nothing.
-use mathlib.Core.Path.{_≡_, refl, sym, ap, _∙_}
+use mathlib.Core.Path.{_≡_, sym, ap, _∙_}
 use mathlib.Core.List.{List, [], _∷_, _++_}
 use mathlib.Core.Option.{some}
 use mathlib.Core.Logic.{_⊎_, inl, inr}
@@ -7,7 +7,8 @@ use Prim.Native.Nat.{ℕ, _+_, _≤_, _<_}
 use native.Mathlib.Omega.{arith}
 use lib.ListN.{length, take, getD, getElem?}
 use Rattle.machine.specs.State.{Definition, Footnote}
-use Rattle.kept.specs.Kept.{column, setRow, LabelIs, Piece, Optional, orEmpty, DefinitionIs, Definitions, Footnotes}
+use Rattle.kept.specs.Kept.{column, LabelIs, Piece, Optional, orEmpty, DefinitionIs, Definitions, Footnotes}
+use Rattle.kept.specs.Private.{setRow}
 use Rattle.kept.proofs.Lists.{index-low, one-more, long-more}
 use Rattle.kept.proofs.Rows.{long-column, row-column, row-own, row-other}
 use Rattle.kept.proofs.Labels.{labels-more, definition-labels-more, footnote-labels-more}

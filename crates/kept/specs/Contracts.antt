@@ -1,19 +1,19 @@
 -- What the functions promise: where the tables stand for a state of the machine, they stand for the next one. Assumes nothing.
 use mathlib.Core.Path.{_≡_}
-use mathlib.Core.List.{List, [], _∷_}
-use Prim.Native.Nat.{ℕ, suc, _+_, _*_, _≤_, _<_}
-use lib.ListN.{length, take, drop}
-use Rattle.regions.specs.Regions.{regionAt, Carries}
+use mathlib.Core.List.{List, _∷_}
+use Prim.Native.Nat.{ℕ, _≤_, _<_}
+use lib.ListN.{length, take}
+use Rattle.regions.specs.Regions.{regionAt}
 use Rattle.normalize_identifier.specs.declared.Found.{Found}
-use Rattle.normalize_identifier.specs.Search as Search
-use Rattle.normalize_identifier.specs.Search.{labelsOf, firstSame}
-use Rattle.machine.specs.State.{State, Span, Definition, Footnote, Call}
+use Rattle.normalize_identifier.specs.Search.{firstSame}
+use Rattle.machine.specs.State.{State, Span, Definition}
 use Rattle.machine.specs.Set.{setLabels, setCalls, addFootnote, addDefinition}
 use Rattle.machine.specs.Media.{definitionLabels}
 use Rattle.machine.specs.Footnote.{callIndex, countAt, timesAt}
+use Rattle.machine.specs.Section.{footnoteLabels}
 use Rattle.machine.specs.Totals.{kept}
 use Rattle.kept.specs.declared.Kept.{Kept}
-use Rattle.kept.specs.Kept.{LabelIs, setRow, Piece, Optional, orEmpty, tables, Keeps}
+use Rattle.kept.specs.Kept.{LabelIs, Piece, Optional, orEmpty, tables, Keeps}
 
 -- ---- labels of open footnotes
 
@@ -23,15 +23,16 @@ pub record OpensLabel (k : Kept) (from to : ℕ) (labels : List ℕ) (r : Kept) 
 
 -- ---- searches
 
-pub record FindsFirst (text starts ends : List ℕ) (n : ℕ) (label : List ℕ) (r : Found) : Type 0 where
-  pub finds : Search.Table text starts ends n → r ≡ firstSame (labelsOf text starts ends n) label
-
 pub record FindsCall (k : Kept) (text : List ℕ) (from to : ℕ) (calls : List ℕ) (r : ℕ) : Type 0 where
   pub finds : {region d f l label : List ℕ} {s : State} → Keeps k text region (tables d f calls l) s → LabelIs text from to label → r ≡ callIndex label (s .kept .calls)
 
 pub record FindsDefinition (k : Kept) (text : List ℕ) (from to : ℕ) (definitions : List ℕ) (r : Found) : Type 0 where
   pub finds : {region f c l label : List ℕ} {s : State} → Keeps k text region (tables definitions f c l) s → kept s ≤ 16384 → LabelIs text from to label
       → r ≡ firstSame (definitionLabels (s .kept .definitions)) label
+
+pub record FindsFootnote (k : Kept) (text : List ℕ) (from to : ℕ) (footnotes : List ℕ) (r : Found) : Type 0 where
+  pub finds : {region d c l label : List ℕ} {s : State} → Keeps k text region (tables d footnotes c l) s → kept s ≤ 16384 → LabelIs text from to label
+      → r ≡ firstSame (footnoteLabels (s .kept .footnotes)) label
 
 -- ---- calls
 
@@ -45,10 +46,6 @@ pub record TellsTimes (calls : List ℕ) (index r : ℕ) : Type 0 where
 
 -- ---- what is kept in bytes
 
--- a row set, where the table has it
-pub record SetsRow (n i : ℕ) (words table table′ : List ℕ) : Type 0 where
-  pub row : i < n → length words * n ≡ length table → table′ ≡ setRow n i 0 words table
-
 -- the two regions before the kept bytes stay
 pub record KeptIn (r : Kept) (text work work′ definitions footnotes calls labels : List ℕ) (s : State) : Type 0 where
   pub keeps : Keeps r text (regionAt 32768 work′) (tables definitions footnotes calls labels) s
@@ -58,11 +55,6 @@ pub record KeepsFootnote (k : Kept) (from n : ℕ) (work footnotes labels : List
   pub keeps : {text d c body label : List ℕ} {p : Span} {ps : List Span} {s : State} → 49152 ≤ length work → Keeps k text (regionAt 32768 work) (tables d footnotes c labels) s
       → s .labels ≡ p ∷ ps → LabelIs text (p .from) (p .to) label → Piece work 32768 from n body → length (s .kept .footnotes) < 64
       → KeptIn r text work work′ d footnotes′ c labels (addFootnote (record { label = label; body = body }) (setLabels ps s))
-
--- nothing is carried for a title that is missing
-pub record CarriesTitle (work : List ℕ) (place title at : ℕ) (work′ : List ℕ) (r : ℕ) : Type 0 where
-  pub missing : title ≡ 0 → (work′ ≡ work) × (r ≡ at)
-  pub there : {n : ℕ} → title ≡ suc n → Carries work place n 32768 at work′ r
 
 pub record KeepsDefinition (k : Kept) (from to place n titlePlace title : ℕ) (work definitions : List ℕ) (r : Kept) (work′ definitions′ : List ℕ) : Type 0 where
   pub keeps : {text f c l : List ℕ} (d : Definition) {s : State} → 49152 ≤ length work → Keeps k text (regionAt 32768 work) (tables definitions f c l) s

@@ -3,7 +3,7 @@ use mathlib.Core.Path.{_≡_}
 use mathlib.Core.List.{List, [], _∷_}
 use mathlib.Core.Option.{Option, none, some}
 use Prim.Native.Nat.{ℕ, zero, suc, min, _+_, _-_, _*_, _≤_}
-use lib.ListN.{length, take, drop, set, getD, getElem?}
+use lib.ListN.{length, take, drop, getD, getElem?}
 use Rattle.normalize_identifier.specs.Search as Search
 use Rattle.normalize_identifier.specs.Search.{labelsOf}
 use Rattle.machine.specs.State.{State, Span, Definition, Footnote, Call}
@@ -28,11 +28,6 @@ pub record LabelIs (text : List ℕ) (from to : ℕ) (label : List ℕ) : Type 0
   pub ordered : from ≤ to
   pub inside : to ≤ length text
   pub is : take (to - from) (drop from text) ≡ label
-
--- the words of one row, in the columns from k on
-abbrev pub setRow : (n i k : ℕ) → (words table : List ℕ) → List ℕ
-setRow n i k [] table = table
-setRow n i k (v ∷ vs) table = setRow n i (suc k) vs (set table (k * n + i) v)
 
 -- ---- pieces of a region
 

@@ -4,7 +4,8 @@ ghost use mathlib.Core.Path.{_≡_};
 ghost use mathlib.Core.List.{[], _∷_};
 ghost use lib.ListN.{take, drop, getD};
 ghost use Rattle.kept.specs.Kept.{column};
-ghost use Rattle.kept.specs.Contracts.{OpensLabel, FindsFirst, FindsCall, FindsDefinition, CountsCall, TellsTimes, SetsRow, KeepsFootnote, CarriesTitle, KeepsDefinition};
+ghost use Rattle.kept.specs.Contracts.{OpensLabel, FindsCall, FindsDefinition, FindsFootnote, CountsCall, TellsTimes, KeepsFootnote, KeepsDefinition};
+ghost use Rattle.kept.specs.Private.{SetsRow, FindsLabel, CarriesTitle};
 use normalize_identifier::Found;
 
 pub struct Kept {
@@ -102,27 +103,28 @@ pub fn open_label(k: Kept, from: usize, to: usize, labels: &mut [usize]) -> Kept
 
 // ---- searches
 
-// The first of n labels that has the identity of `label`.
-fn find_first(text: &[u8], starts: &[usize], ends: &[usize], n: usize, label: &[u8]) -> Found
-    ensures { λ r. ⌜ FindsFirst (now (text .entry)) (now (starts .entry)) (now (ends .entry)) n (now (label .entry)) r ⌝ }
+// The first of n labels, whose places are the first two columns of a table, that has the identity of the text's part from one place to another.
+fn find_label(text: &[u8], from: usize, to: usize, table: &[usize], rows: usize, n: usize) -> Found
+    ensures { λ r. ⌜ FindsLabel (now (text .entry)) from to (now (table .entry)) rows n r ⌝ }
 {
+    if to < from {
+        return Found::Nothing;
+    }
+    if text.len() < to {
+        return Found::Nothing;
+    }
+    let label = &text[from..to];
     let mut i: usize = 0;
     while i < n {
-        if starts.len() <= i {
+        let start = word(table, 0, rows, i);
+        let end = word(table, rows, rows, i);
+        if end < start {
             return Found::Nothing;
         }
-        if ends.len() <= i {
+        if text.len() < end {
             return Found::Nothing;
         }
-        let from = starts[i];
-        let to = ends[i];
-        if to < from {
-            return Found::Nothing;
-        }
-        if text.len() < to {
-            return Found::Nothing;
-        }
-        let entry = &text[from..to];
+        let entry = &text[start..end];
         if normalize_identifier::same_identity(entry, label) {
             return Found::At(i);
         }
@@ -135,23 +137,10 @@ fn find_first(text: &[u8], starts: &[usize], ends: &[usize], n: usize, label: &[
 pub fn call_index(k: Kept, text: &[u8], from: usize, to: usize, calls: &[usize]) -> usize
     ensures { λ r. ⌜ FindsCall k (now (text .entry)) from to (now (calls .entry)) r ⌝ }
 {
-    if calls.len() != 192 {
-        return 0;
-    }
-    if to < from {
-        return 0;
-    }
-    if text.len() < to {
-        return 0;
-    }
-    let n = k.calls;
-    let label = &text[from..to];
-    let starts = &calls[0..64];
-    let ends = &calls[64..128];
-    let found = find_first(text, starts, ends, n, label);
+    let found = find_label(text, from, to, calls, 64, k.calls);
     match found {
         Found::At(i) => i,
-        Found::Nothing => n,
+        Found::Nothing => k.calls,
     }
 }
 
@@ -159,20 +148,14 @@ pub fn call_index(k: Kept, text: &[u8], from: usize, to: usize, calls: &[usize])
 pub fn find_definition(k: Kept, text: &[u8], from: usize, to: usize, definitions: &[usize]) -> Found
     ensures { λ r. ⌜ FindsDefinition k (now (text .entry)) from to (now (definitions .entry)) r ⌝ }
 {
-    if definitions.len() != 640 {
-        return Found::Nothing;
-    }
-    if to < from {
-        return Found::Nothing;
-    }
-    if text.len() < to {
-        return Found::Nothing;
-    }
-    let n = k.definitions;
-    let label = &text[from..to];
-    let starts = &definitions[0..128];
-    let ends = &definitions[128..256];
-    find_first(text, starts, ends, n, label)
+    find_label(text, from, to, definitions, 128, k.definitions)
+}
+
+// Which footnote has a label: of equal ones the first to end.
+pub fn find_footnote(k: Kept, text: &[u8], from: usize, to: usize, footnotes: &[usize]) -> Found
+    ensures { λ r. ⌜ FindsFootnote k (now (text .entry)) from to (now (footnotes .entry)) r ⌝ }
+{
+    find_label(text, from, to, footnotes, 64, k.footnotes)
 }
 
 // ---- calls

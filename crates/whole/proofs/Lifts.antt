@@ -24,7 +24,7 @@ use Rattle.whole.proofs.Parts.{linked-same, keeps-same, front-long, fro
 -- ---- the context alone changes, and the captures, the page and the starts with it
 
 -- the bytes behind the captures stay
-kept-on : {text : List ℕ} (d : Command) {b : Whole} {w : World} {x : Context} → isQuiet d ≡ true → {captures out starts : List ℕ} → length captures ≡ 16384 → length starts ≡ 64 → (t : Turn) (s u : State) → Built text b w s → within d t s ≡ go u → Rel x captures out starts u
+pub kept-on : {text : List ℕ} (d : Command) {b : Whole} {w : World} {x : Context} → isQuiet d ≡ true → {captures out starts : List ℕ} → length captures ≡ 16384 → length starts ≡ 64 → (t : Turn) (s u : State) → Built text b w s → within d t s ≡ go u → Rel x captures out starts u
     → Built text (withContext x b) (withStarts starts (withBytes captures out w)) u
 kept-on d {w = w} q {captures} {out} {starts} l n t s u y p r =
     let e = rests d q t s .leaves u p in

@@ -1,44 +1,11 @@
--- The first of the labels, or the place behind them.
+-- The first of the labels, or the place behind them. Assumes nothing.
 use borrow.Author.Needs.{needs}
 use Rattle.kept.proofs.call_index.Statement.{statement}
 use Rattle.kept.proofs.call_index.Tie as tie
-use Rattle.kept.proofs.Finds.{call-short, call-unordered, call-outside, call-found, call-new}
+use Rattle.kept.proofs.Finds.{call-found, call-new}
 
-returns : tie.Need-returns
-returns c = search call-short
-
-returns-2 : tie.Need-returns-2
-returns-2 c = search call-unordered
-
-returns-3 : tie.Need-returns-3
-returns-3 c = search call-outside
-
-part-label-start : tie.Need-part-label-start
-part-label-start c = search needs
-
-part-label-end : tie.Need-part-label-end
-part-label-end c = search needs
-
-sub-starts : tie.Need-sub-starts
-sub-starts c = search needs
-
-part-starts-start : tie.Need-part-starts-start
-part-starts-start c = search needs
-
-part-starts-end : tie.Need-part-starts-end
-part-starts-end c = search needs
-
-sub-ends : tie.Need-sub-ends
-sub-ends c = search needs
-
-part-ends-start : tie.Need-part-ends-start
-part-ends-start c = search needs
-
-part-ends-end : tie.Need-part-ends-end
-part-ends-end c = search needs
-
-find-first-requires : tie.Need-find-first-requires
-find-first-requires c κs = search needs
+find-label-requires : tie.Need-find-label-requires
+find-label-requires c κs = search needs
 
 enum-known-found : tie.Need-enum-known-found
 enum-known-found c = search needs
@@ -46,29 +13,12 @@ enum-known-found c = search needs
 enum-told : tie.Need-enum-told
 enum-told c = search needs
 
-returns-4 : tie.Need-returns-4
-returns-4 c = search call-found
+returns : tie.Need-returns
+returns c = search call-found
 
-returns-5 : tie.Need-returns-5
-returns-5 c = search call-new
+returns-2 : tie.Need-returns-2
+returns-2 c = search call-new
 
 pub call-index-spec : {M : Type 1} → statement M
 call-index-spec =
-    tie.close
-    (tie.spec
-    returns
-    returns-2
-    returns-3
-    part-label-start
-    part-label-end
-    sub-starts
-    part-starts-start
-    part-starts-end
-    sub-ends
-    part-ends-start
-    part-ends-end
-    find-first-requires
-    enum-known-found
-    enum-told
-    returns-4
-    returns-5)
+    tie.close (tie.spec find-label-requires enum-known-found enum-told returns returns-2)

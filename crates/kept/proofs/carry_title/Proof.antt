@@ -1,4 +1,4 @@
--- Where there is one.
+-- Where there is one. Assumes nothing.
 use borrow.Author.Needs.{needs}
 use Rattle.kept.proofs.carry_title.Statement.{statement}
 use Rattle.kept.proofs.carry_title.Tie as tie

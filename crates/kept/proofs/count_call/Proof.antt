@@ -1,4 +1,4 @@
--- Where it was counted before, once more; else behind the last.
+-- Where it was counted before, once more; else behind the last. Assumes nothing.
 use native.Mathlib.Omega.{arith}
 use lib.ListN.{length-set}
 use borrow.Author.Needs.{needs}

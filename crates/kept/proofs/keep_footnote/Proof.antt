@@ -1,4 +1,4 @@
--- Where the bytes have no room the end says so.
+-- Where the bytes have no room the end says so. Assumes nothing.
 use borrow.Author.Needs.{needs}
 use Rattle.kept.proofs.keep_footnote.Statement.{statement}
 use Rattle.kept.proofs.keep_footnote.Tie as tie

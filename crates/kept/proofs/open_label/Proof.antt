@@ -1,11 +1,9 @@
--- Where the table has a row left.
+-- Where the table has a row left. Assumes nothing.
 use native.Mathlib.Omega.{arith}
 use borrow.Author.Needs.{needs}
 use lib.ListN.{length-set}
 use Rattle.kept.proofs.open_label.Statement.{statement}
 use Rattle.kept.proofs.open_label.Tie as tie
-use Rattle.kept.proofs.open_label.Reads as reads
-use Rattle.kept.proofs.open_label.Lts as lts
 use Rattle.kept.proofs.Opens.{opens-short, opens-full, opens-label}
 
 returns : tie.Need-returns

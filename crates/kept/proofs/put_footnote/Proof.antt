@@ -1,4 +1,4 @@
--- Where the table has the row.
+-- Where the table has the row. Assumes nothing.
 use native.Mathlib.Omega.{arith}
 use lib.ListN.{length-set}
 use borrow.Author.Needs.{needs}

@@ -1,4 +1,4 @@
--- The word of the third column.
+-- The word of the third column. Assumes nothing.
 use borrow.Author.Needs.{needs}
 use Rattle.kept.proofs.times_at.Statement.{statement}
 use Rattle.kept.proofs.times_at.Tie as tie

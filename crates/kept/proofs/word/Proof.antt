@@ -1,4 +1,4 @@
--- Where the column, or the table, has no such row there is none.
+-- Where the column, or the table, has no such row there is none. Assumes nothing.
 use borrow.Author.Needs.{needs}
 use Rattle.kept.proofs.word.Statement.{statement}
 use Rattle.kept.proofs.word.Tie as tie
