@@ -29,7 +29,7 @@ last-get x b [] = refl
 last-get x b (y ∷ c) = last-get b y c
 
 module _ (d u : List ℕ) {p from : ℕ} (e : from ≡ length u) (l : p ≤ length d) where
-  ends-is : (c : List ℕ) → Holds d p (u ++ c) → endsLine d from p ≡ isEol (lastOr 10 c)
+  pub ends-is : (c : List ℕ) → Holds d p (u ++ c) → endsLine d from p ≡ isEol (lastOr 10 c)
   unfolding endsLine
   ends-is [] h =
       let n = length-append u [] in

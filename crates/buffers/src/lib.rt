@@ -53,7 +53,8 @@ pub fn push_encoded(
 
 // ---- line endings
 
-fn put_ending(ending: Ending, out: &mut [u8], at: usize) -> usize
+// The bytes of a line ending.
+pub fn put_ending(ending: Ending, out: &mut [u8], at: usize) -> usize
     ensures { λ r. ⌜ Filled (now (out .entry)) at (endingBytes ending) (now (out .exit)) r ⌝ }
 {
     match ending {
@@ -85,7 +86,8 @@ fn is_eol(b: u8) -> bool
     (b == b'\n') | (b == b'\r')
 }
 
-fn ends_line(s: &[u8], from: usize, to: usize) -> bool
+// Whether the bytes from one place to another are none, or end in a line ending. Past the buffer's end it says so too.
+pub fn ends_line(s: &[u8], from: usize, to: usize) -> bool
     ensures { λ r. ⌜ r ≡ endsLine (now (s .entry)) from to ⌝ }
 {
     if to <= from {

@@ -25,7 +25,7 @@ use Rattle.kept.specs.Kept.{LabelIs, Labels}
 
 -- ---- the machine's slices
 
-stops : {X A : Type 0} {u : A} → stop ≡ go u → X
+pub stops : {X A : Type 0} {u : A} → stop ≡ go u → X
 stops p = let z : _≡_ {A = ℕ} 0 1 = cc in absurd (omega arith)
 
 slice-is : (text : List ℕ) (p : Span) (label : List ℕ) → sliceOf text p ≡ go label → LabelIs text (p .from) (p .to) label
@@ -40,7 +40,7 @@ slice-is text p label q = on (leb (p .from) (p .to) && leb (p .to) (length text)
     }
     on false i r = stops r
 
-str-is : (b label : List ℕ) → asStr b ≡ go label → b ≡ label
+pub str-is : (b label : List ℕ) → asStr b ≡ go label → b ≡ label
 unfolding asStr
 str-is b label q = on (isUtf8 b) q
   where

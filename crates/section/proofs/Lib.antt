@@ -1,0 +1,4 @@
+pub mod Pages
+pub mod Machine
+pub mod Tables
+pub mod Items
