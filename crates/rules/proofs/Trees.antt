@@ -20,10 +20,10 @@ use Rattle.rules.proofs.Before.{clash}
 
 -- ---- the tags are the events'
 
-abbrev tag : Event → Tag
+abbrev pub tag : Event → Tag
 tag e = tagOf (e .kind) (e .name)
 
-abbrev tagged : List Event → List Tag
+abbrev pub tagged : List Event → List Tag
 tagged [] = []
 tagged (e ∷ es) = tag e ∷ tagged es
 
@@ -31,28 +31,28 @@ same-tag : (b : List ℕ) → tagOf (getD b 0 0) (getD b 1 0) ≡ tag (eventOf (
 unfolding eventAt
 same-tag b = ap₂ tagOf (kind-read b 0) (name-read b 0)
 
-same-tags : (n : ℕ) (b : List ℕ) → tags n b ≡ tagged (eventsIn n b)
+pub same-tags : (n : ℕ) (b : List ℕ) → tags n b ≡ tagged (eventsIn n b)
 unfolding eventsIn
 same-tags zero b = refl
 same-tags (suc n) b = ap₂ (λ (t : Tag) (ts : List Tag). t ∷ ts) (same-tag b) (same-tags n (drop 20 b))
 
 -- ---- a forest of events
 
-entered : (e : Event) (n : ℕ) → tag e ≡ enter n → (isEnter e ≡ true) × (e .name ≡ n)
+pub entered : (e : Event) (n : ℕ) → tag e ≡ enter n → (isEnter e ≡ true) × (e .name ≡ n)
 entered e n = go (isEnter e) refl
   where
     go : (t : Bool) → isEnter e ≡ t → tag e ≡ enter n → (isEnter e ≡ true) × (e .name ≡ n)
     go true p q = let r : enter (e .name) ≡ enter n = rw p at q in (p, cc)
     go false p q = let r : exit (e .name) ≡ enter n = rw p at q in let z : _≡_ {A = ℕ} 0 1 = cc in absurd (omega arith)
 
-left : (e : Event) (n : ℕ) → tag e ≡ exit n → (isEnter e ≡ false) × (e .name ≡ n)
+pub left : (e : Event) (n : ℕ) → tag e ≡ exit n → (isEnter e ≡ false) × (e .name ≡ n)
 left e n = go (isEnter e) refl
   where
     go : (t : Bool) → isEnter e ≡ t → tag e ≡ exit n → (isEnter e ≡ false) × (e .name ≡ n)
     go false p q = let r : exit (e .name) ≡ exit n = rw p at q in (p, cc)
     go true p q = let r : enter (e .name) ≡ exit n = rw p at q in let z : _≡_ {A = ℕ} 0 1 = cc in absurd (omega arith)
 
-first : (es : List Event) (t : Tag) (ts : List Tag) → tagged es ≡ t ∷ ts → (e : Event) × (r : List Event) × (es ≡ e ∷ r) × (tag e ≡ t) × (tagged r ≡ ts)
+pub first : (es : List Event) (t : Tag) (ts : List Tag) → tagged es ≡ t ∷ ts → (e : Event) × (r : List Event) × (es ≡ e ∷ r) × (tag e ≡ t) × (tagged r ≡ ts)
 first [] t ts p = let z : _≡_ {A = ℕ} 0 1 = cc in absurd (omega arith)
 first (e ∷ r) t ts p = (e, r, refl, cc, cc)
 

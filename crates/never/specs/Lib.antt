@@ -1,0 +1,6 @@
+pub mod Values
+pub mod Ghost
+pub mod Here
+pub mod Needs
+pub mod Known
+pub mod Tally
