@@ -1,0 +1,35 @@
+-- A call written to the newest buffer: the captures are the first of the work bytes. Assumes nothing.
+use mathlib.Core.Path.{_≡_, _∙_}
+use mathlib.Core.List.{List, _++_}
+use Prim.Native.Nat.{ℕ, suc, _+_, _-_, _≤_, _<_}
+use native.Mathlib.Omega.{arith}
+use lib.ListN.{length, take, drop, length-take}
+use lib.Seq.{take-at, drop-at}
+use Rattle.machine.specs.Buffers.{push}
+use Rattle.machine.specs.Footnote.{addressOf, callText}
+use Rattle.buffers.specs.declared.Buffers.{Buffers}
+use Rattle.buffers.specs.Stand as Stand
+use Rattle.on_footnote.specs.Private.{WritesCall}
+
+module _ {b : Buffers} {text work out : List ℕ} {from to index times : ℕ} where
+  pub unordered : to < from → WritesCall b text from to index times work out b work out
+  unordered h = record { writes = λ label l i n. absurd (omega (arith, l .ordered)) }
+
+  pub outside : length text < to → WritesCall b text from to index times work out b work out
+  outside h = record { writes = λ label l i n. absurd (omega (arith, l .inside)) }
+
+  pub short : length work < 16384 → WritesCall b text from to index times work out b work out
+  short h = record { writes = λ label l i n. absurd (omega arith) }
+
+  pub full : 64 ≤ index → WritesCall b text from to index times work out b work out
+  full h = record { writes = λ label l i n. absurd (omega arith) }
+
+  pub written : {r : Buffers} {captures out′ : List ℕ} → length captures ≡ length (take 16384 work) → Stand.Keeps (push (callText (addressOf (take (to - from) (drop from text))) (index + 1) times)) b (take 16384 work) out r captures out′
+      → WritesCall b text from to index times work out r (captures ++ drop 16384 work) out′
+  written {captures = captures} e k = record {
+    writes = λ label l i n.
+        let a : length captures ≡ 16384 = e ∙ simp length-take (omega arith) in
+        let m : index + 1 ≡ suc index = omega arith in
+        let k′ = rw (l .is, m) at k in
+        record { keeps = rw (take-at captures (drop 16384 work) 16384 a) k′; behind = drop-at captures (drop 16384 work) 16384 a };
+  }

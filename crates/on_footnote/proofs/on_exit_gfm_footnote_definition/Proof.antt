@@ -1,0 +1,28 @@
+-- The body is kept, the container goes. Assumes nothing.
+use Rattle.machine.specs.OnFootnote.{onExitGfmFootnoteDefinition}
+use Rattle.on_footnote.proofs.Bodies.{loosens-body}
+use borrow.Author.Needs.{needs}
+use Rattle.on_footnote.proofs.on_exit_gfm_footnote_definition.Statement.{statement}
+use Rattle.on_footnote.proofs.on_exit_gfm_footnote_definition.Tie as tie
+
+keep-body-requires : tie.Need-keep-body-requires
+keep-body-requires c κs = search needs
+
+loosen-requires : tie.Need-loosen-requires
+loosen-requires c κs = search needs
+
+same-length : tie.Need-same-length
+same-length c = search needs
+
+same-length-2 : tie.Need-same-length-2
+same-length-2 c = search needs
+
+returns : tie.Need-returns
+unfolding onExitGfmFootnoteDefinition
+returns c =
+    let c1 = c .before .before .before .before .before in
+    loosens-body (c1 .keep-body .ensures) (c .loosen .ensures)
+
+pub on-exit-gfm-footnote-definition-spec : {M : Type 1} → statement M
+on-exit-gfm-footnote-definition-spec =
+    tie.close (tie.spec keep-body-requires loosen-requires same-length same-length-2 returns)

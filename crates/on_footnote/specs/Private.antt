@@ -1,0 +1,28 @@
+-- What the inner functions do: no part of a promise. Assumes nothing.
+use mathlib.Core.Path.{_≡_}
+use mathlib.Core.List.{List}
+use Prim.Native.Nat.{ℕ, suc, _≤_, _<_}
+use lib.ListN.{length, take, drop}
+use Rattle.machine.specs.Buffers.{push}
+use Rattle.machine.specs.Footnote.{addressOf, callText}
+use Rattle.machine.specs.Command.{call}
+use Rattle.buffers.specs.declared.Buffers.{Buffers}
+use Rattle.buffers.specs.Stand as Stand
+use Rattle.links.specs.declared.Span.{Span}
+use Rattle.links.specs.declared.Label.the-variants as L
+use Rattle.kept.specs.Kept.{LabelIs}
+use Rattle.whole.specs.declared.Whole.{Whole}
+use Rattle.whole.specs.Whole.{Held}
+use Rattle.on_footnote.specs.Footnotes.{OnCalls}
+
+-- the newest medium is known by this slice
+pub record CallsLabel (p : Span) (b : Whole) (text work out calls : List ℕ) (r : Whole) (work′ out′ calls′ : List ℕ) : Type 0 where
+  pub calls-label : b .links .media .«label_id» ≡ L.Is p → OnCalls Held call b text work out calls r work′ out′ calls′
+
+-- a call to the newest buffer; what stands behind the captures stays
+pub record Written (t : List ℕ) (b : Buffers) (work out : List ℕ) (r : Buffers) (work′ out′ : List ℕ) : Type 0 where
+  pub keeps : Stand.Keeps (push t) b (take 16384 work) out r (take 16384 work′) out′
+  pub behind : drop 16384 work′ ≡ drop 16384 work
+
+pub record WritesCall (b : Buffers) (text : List ℕ) (from to index times : ℕ) (work out : List ℕ) (r : Buffers) (work′ out′ : List ℕ) : Type 0 where
+  pub writes : (label : List ℕ) → LabelIs text from to label → index < 64 → 16384 ≤ length work → Written (callText (addressOf label) (suc index) times) b work out r work′ out′

@@ -1,0 +1,167 @@
+// Handlers of footnotes, by their Rust names.
+ghost use Rattle.machine.specs.OnFootnote.{onEnterGfmFootnoteCall, onExitGfmFootnoteCall, onEnterGfmFootnoteDefinition, onExitGfmFootnoteDefinitionLabelString, onExitGfmFootnoteDefinitionPrefix, onExitGfmFootnoteDefinition};
+ghost use Rattle.machine.specs.Command.{keepFootnote};
+ghost use Rattle.context.specs.Rel.{Any};
+ghost use Rattle.whole.specs.Whole.{Always, Held, Roomy, Unlent, OnStarts};
+ghost use Rattle.on_footnote.specs.Footnotes.{IsEvent, OnLabels, OnFootnotes, OnCalls};
+ghost use Rattle.on_footnote.specs.Private.{CallsLabel, WritesCall};
+use buffers::Buffers;
+use event::Event;
+use links::Label;
+use links::Span;
+use whole::Whole;
+
+// ---- calls
+
+pub fn on_enter_gfm_footnote_call(b: Whole) -> Whole
+    ensures { λ r. ⌜ Unlent Always Any onEnterGfmFootnoteCall b r ⌝ }
+{
+    let mut r = b;
+    r.links = links::open_media(b.links, false);
+    r
+}
+
+pub fn on_exit_gfm_footnote_call(
+    b: Whole,
+    text: &[u8],
+    work: &mut [u8],
+    out: &mut [u8],
+    calls: &mut [usize],
+) -> Whole
+    ensures { λ r. ⌜ OnCalls Held onExitGfmFootnoteCall b (now (text .entry)) (now (work .entry)) (now (out .entry)) (now (calls .entry)) r (now (work .exit)) (now (out .exit)) (now (calls .exit)) ⌝ }
+{
+    let l = b.links;
+    let m = l.media;
+    let label = m.label_id;
+    match label {
+        Label::Unset => b,
+        Label::Is(p) => call_label(b, p, text, work, out, calls),
+    }
+}
+
+// A label is called: counted in an image's text too, but not written there.
+fn call_label(
+    b: Whole,
+    p: Span,
+    text: &[u8],
+    work: &mut [u8],
+    out: &mut [u8],
+    calls: &mut [usize],
+) -> Whole
+    ensures { λ r. ⌜ CallsLabel p b (now (text .entry)) (now (work .entry)) (now (out .entry)) (now (calls .entry)) r (now (work .exit)) (now (out .exit)) (now (calls .exit)) ⌝ }
+{
+    let from = p.from.0;
+    let to = p.to.0;
+    let index = kept::call_index(b.kept, text, from, to, calls);
+    let mut r = b;
+    r.kept = kept::count_call(b.kept, index, from, to, calls);
+    r.links = links::close_media(b.links);
+    if b.context.flags.alt {
+        return r;
+    }
+    let times = kept::times_at(calls, index);
+    let mut c = b.context;
+    c.buffers = write_call(c.buffers, text, from, to, index, times, work, out);
+    r.context = c;
+    r
+}
+
+// Writes the call of the label from one place of the text to another.
+fn write_call(
+    b: Buffers,
+    text: &[u8],
+    from: usize,
+    to: usize,
+    index: usize,
+    times: usize,
+    work: &mut [u8],
+    out: &mut [u8],
+) -> Buffers
+    ensures { λ r. ⌜ WritesCall b (now (text .entry)) from to index times (now (work .entry)) (now (out .entry)) r (now (work .exit)) (now (out .exit)) ⌝ }
+{
+    if to < from {
+        return b;
+    }
+    if text.len() < to {
+        return b;
+    }
+    if work.len() < 16384 {
+        return b;
+    }
+    if 64 <= index {
+        return b;
+    }
+    let label = &text[from..to];
+    let captures = &mut work[0..16384];
+    note_text::push_call(b, captures, out, label, index + 1, times)
+}
+
+// ---- definitions
+
+pub fn on_enter_gfm_footnote_definition(b: Whole) -> Whole
+    ensures { λ r. ⌜ Unlent Always Any onEnterGfmFootnoteDefinition b r ⌝ }
+{
+    let mut r = b;
+    r.context = context::tighten(b.context, false);
+    r
+}
+
+pub fn on_exit_gfm_footnote_definition_label_string(
+    b: Whole,
+    e: Event,
+    labels: &mut [usize],
+) -> Whole
+    ensures { λ r. ⌜ OnLabels Always (IsEvent e) onExitGfmFootnoteDefinitionLabelString b (now (labels .entry)) r (now (labels .exit)) ⌝ }
+{
+    let mut r = b;
+    r.kept = kept::open_label(b.kept, e.from.0, e.to.0, labels);
+    r
+}
+
+// The prefix goes; everything until the end of the definition is captured.
+pub fn on_exit_gfm_footnote_definition_prefix(b: Whole, starts: &mut [usize]) -> Whole
+    ensures { λ r. ⌜ OnStarts Roomy Any onExitGfmFootnoteDefinitionPrefix b (now (starts .entry)) r (now (starts .exit)) ⌝ }
+{
+    let mut r = b;
+    let c = context::drop(b.context, starts);
+    r.context = context::open(c, starts);
+    r
+}
+
+pub fn on_exit_gfm_footnote_definition(
+    b: Whole,
+    work: &mut [u8],
+    starts: &[usize],
+    footnotes: &mut [usize],
+    labels: &[usize],
+) -> Whole
+    ensures { λ r. ⌜ OnFootnotes Roomy onExitGfmFootnoteDefinition b (now (work .entry)) (now (starts .entry)) (now (footnotes .entry)) (now (labels .entry)) r (now (work .exit)) (now (footnotes .exit)) ⌝ }
+{
+    let k = keep_body(b, work, starts, footnotes, labels);
+    let mut r = k;
+    r.context = context::loosen(k.context);
+    r
+}
+
+// The newest capture is the body of the newest open footnote.
+fn keep_body(
+    b: Whole,
+    work: &mut [u8],
+    starts: &[usize],
+    footnotes: &mut [usize],
+    labels: &[usize],
+) -> Whole
+    ensures { λ r. ⌜ OnFootnotes Roomy keepFootnote b (now (work .entry)) (now (starts .entry)) (now (footnotes .entry)) (now (labels .entry)) r (now (work .exit)) (now (footnotes .exit)) ⌝ }
+{
+    let mut r = b;
+    let mut c = b.context;
+    let from = c.buffers.start;
+    let to = c.buffers.end;
+    if to < from {
+        return b;
+    }
+    r.kept = kept::keep_footnote(b.kept, from, to - from, work, footnotes, labels);
+    c.buffers = buffers::drop(b.context.buffers, starts);
+    r.context = c;
+    r
+}
