@@ -27,7 +27,7 @@ use Rattle.machine.specs.Media.{definitionLabels}
 use Rattle.machine.specs.Command.{exec}
 use Rattle.machine.specs.Handlers.{rows, commandOf}
 use Rattle.machine.specs.OnMedia.{onEnterDefinition, onExitDefinition}
-use Rattle.clean.proofs.Within.{within-exec as plain}
+use Rattle.clean.proofs.Within.{within-exec}
 use Rattle.shape.specs.Kinds.{rowOf}
 use Rattle.shape.specs.Grown.{Kinds}
 use Rattle.shape.specs.Pass.{placed, behind, turnAt}
@@ -127,7 +127,7 @@ module _ (text events : List ℕ) (meets : Meets text events) (few : length (ide
     label-kept x t =
         let d = did text events meets o P₂ Before₂ z es v x (h .steady .here) t ∙ ap (λ (l : List Val.Effect). doTo text z l (values v)) (exit-effects z 53 (r .1) z53) ∙ defines-53 text z (values v) in
         let ec = exit-command text o Rest P₂ Before₂ z es (r .1) ∙ ap (λ (k : ℕ). rowOf k .exit) z53 in
-        let ex : exec (rowOf 53 .exit) turn v ≡ go x = rw ec at (plain (commandOf turn) turn v x t) in
+        let ex : exec (rowOf 53 .exit) turn v ≡ go x = rw ec at (within-exec (commandOf turn) turn v x t) in
         let m = media-there turn v x ex in
         let g = definition-ids f c w (idsOf before) in
         let top : idsOf Before₂ ≡ g .0 ∷ idsOf before = opened text events meets P₂ before a f z es (h .steady .here) r c 53 n pushes-53 ∙ g .3 in

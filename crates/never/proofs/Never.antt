@@ -21,7 +21,7 @@ use Rattle.machine.specs.Test.{isEmpty}
 use Rattle.machine.specs.Section.{footnoteSection}
 use Rattle.machine.specs.Run.{endingOf, turnsOf, page, pageOf, sectionEnd, finish, runFrom, runWith, machineOf}
 use Rattle.bounded.specs.Within.{Goes, ends, turns}
-use Rattle.clean.proofs.Within.{within-exec as plain}
+use Rattle.clean.proofs.Within.{within-exec}
 use Rattle.clean.specs.Clean.{Clean}
 use Rattle.clean.specs.Section.{Called}
 use Rattle.clean.proofs.Section.{section-goes}
@@ -35,7 +35,7 @@ no-limit s = none
 run-goes : (n : ℕ) {ts : List Turn} {s v : State} → Goes ts s v → runFrom n no-limit ts s ≡ finish n no-limit v
 unfolding runFrom handle
 run-goes n (ends s) = refl
-run-goes n (turns t {s = s} {u} w g) = rw (runFrom, plain (commandOf t) t s u w) (run-goes n g)
+run-goes n (turns t {s = s} {u} w g) = rw (runFrom, within-exec (commandOf t) t s u w) (run-goes n g)
 
 finish-goes : (n : ℕ) (v : State) → Clean v → Called v → (b : List ℕ) × (finish n no-limit v ≡ page b)
 unfolding finish

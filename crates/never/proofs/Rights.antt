@@ -23,7 +23,7 @@ use Rattle.machine.specs.Test.{is, isImage}
 use Rattle.machine.specs.Command as C
 use Rattle.machine.specs.Command.{Command, _▸_, whether, put, reference, drop, resumeCode, closeMedia, leaveImage, seekDefinition, show, when, unless, tag, exec}
 use Rattle.bounded.specs.Within.{within}
-use Rattle.clean.proofs.Within.{within-exec as plain}
+use Rattle.clean.proofs.Within.{within-exec}
 use Rattle.shape.specs.Kinds.{rowOf, below}
 use Rattle.shape.specs.Right.{Asks, Right, Sought, Defines, Notes, Calls}
 use Rattle.shape.proofs.Test.{computed}
@@ -121,7 +121,7 @@ module _ (t : Turn) (s : State) where
   -- the search comes behind a flag, the definition behind a capture
   same-media : (u : State) → within leaveImage t s ≡ go u → Sought t s → Sought t u
   unfolding exec leaveAlt
-  same-media u e r = via-newest s u (λ (m, ms). go (setFlag alt (anyImage ms) s)) (plain leaveImage t s u e) (λ m ms p q. let i : setFlag alt (anyImage ms) s ≡ u = cc in rw (sym i) r)
+  same-media u e r = via-newest s u (λ (m, ms). go (setFlag alt (anyImage ms) s)) (within-exec leaveImage t s u e) (λ m ms p q. let i : setFlag alt (anyImage ms) s ≡ u = cc in rw (sym i) r)
 
   sought-right : Sought t s → Right (leaveImage ▸ seekDefinition ▸ afterSeek) t s
   unfolding Right
@@ -137,7 +137,7 @@ module _ (t : Turn) (s : State) where
 
   same-defines : (u : State) → within C.drop t s ≡ go u → Defines t s → Defines t u
   unfolding exec
-  same-defines u e r = via-take s u (λ (b, w). go w) (plain C.drop t s u e) (λ c cs q. let i : setCaptures cs s ≡ u = cc in rw (sym i) r)
+  same-defines u e r = via-take s u (λ (b, w). go w) (within-exec C.drop t s u e) (λ c cs q. let i : setCaptures cs s ≡ u = cc in rw (sym i) r)
 
   pub right-53 : Defines t s → Right (rowOf 53 .exit) t s
   unfolding Right rows onExitDefinition

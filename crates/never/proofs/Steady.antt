@@ -21,7 +21,7 @@ use Rattle.machine.specs.Turn.{Turn}
 use Rattle.machine.specs.Command.{Command}
 use Rattle.machine.specs.Handlers.{commandIn, commandOf}
 use Rattle.bounded.specs.Within.{within}
-use Rattle.clean.proofs.Within.{within-exec as plain}
+use Rattle.clean.proofs.Within.{within-exec}
 use Rattle.clean.specs.Clean.{Clean}
 use Rattle.clean.proofs.Commands.{keeps}
 use Rattle.clean.proofs.Handlers.{command-ours}
@@ -73,7 +73,7 @@ module _ (text events : List ℕ) (meets : Meets text events) where
 
     -- a turn does to the values what its event's effects say
     pub did : within (commandOf t) t s ≡ go u → values u ≡ doTo text e (effectsAt e) (values s)
-    did w = tracked (commandOf t) t s u tracks-it (plain (commandOf t) t s u w) ∙ ap (λ (c : Command). doTo text e (effectsOf c) (values s)) command-is
+    did w = tracked (commandOf t) t s u tracks-it (within-exec (commandOf t) t s u w) ∙ ap (λ (c : Command). doTo text e (effectsOf c) (values s)) command-is
 
     -- the marker is that of the newest marker event
     newest : (v : Values) → ((m : Marker) → v .marker ≡ some m → Marks events p m) → (m : Marker) → doTo text e (effectsAt e) v .marker ≡ some m → Marks events (suc p) m
@@ -113,7 +113,7 @@ module _ (text events : List ℕ) (meets : Meets text events) where
           ids = rw i (prefix-run e (effectsAt e) (idsIn (s .media)) (idsOf before) (k .ids));
           marker = λ m q. newest (values s) (k .marker) m (sym (ap (λ (v : Values). v .marker) d) ∙ q);
           read = rw l (labels-run text e (effectsAt e) (s .labels) (spans-there text events meets p before e es h) (k .read));
-          clean = keeps (commandOf t) (command-ours t) t s u (k .clean) (plain (commandOf t) t s u w);
+          clean = keeps (commandOf t) (command-ours t) t s u (k .clean) (within-exec (commandOf t) t s u w);
         }
 
   -- outside of definitions in the first pass

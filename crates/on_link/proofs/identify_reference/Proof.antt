@@ -1,0 +1,19 @@
+-- The capture goes, and the slice names it.
+use borrow.Author.Needs.{needs}
+use Rattle.on_link.proofs.identify_reference.Statement.{statement}
+use Rattle.on_link.proofs.identify_reference.Tie as tie
+use mathlib.Core.Path.{refl}
+use Rattle.on_link.proofs.Lifted.{lifts-sets, lifts-ends, lifts-begins, identified}
+use Rattle.on_link.proofs.Chains.{then-unlent, then-from-starts, then-on-starts, then-on-work}
+
+drop-requires : tie.Need-drop-requires
+drop-requires c κs = search needs
+
+identify-reference-requires : tie.Need-identify-reference-requires
+identify-reference-requires c κs = search needs
+
+returns : tie.Need-returns
+returns c = then-from-starts (lifts-ends refl (c .before .drop .ensures)) (identified (c .identify-reference .ensures))
+
+pub identify-reference-spec : {M : Type 1} → statement M
+identify-reference-spec = tie.close (tie.spec drop-requires identify-reference-requires returns)

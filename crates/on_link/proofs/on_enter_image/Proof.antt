@@ -1,0 +1,22 @@
+-- One after the other.
+use borrow.Author.Needs.{needs}
+use Rattle.on_link.proofs.on_enter_image.Statement.{statement}
+use Rattle.on_link.proofs.on_enter_image.Tie as tie
+use mathlib.Core.Path.{refl}
+use Rattle.machine.specs.OnMedia.{onEnterImage}
+use Rattle.whole.proofs.Media.{opens-media}
+use Rattle.on_link.proofs.Lifted.{lifts-sets, lifts-ends, lifts-begins, identified}
+use Rattle.on_link.proofs.Chains.{then-unlent, then-from-starts, then-on-starts, then-on-work}
+
+open-media-requires : tie.Need-open-media-requires
+open-media-requires c κs = search needs
+
+set-alt-requires : tie.Need-set-alt-requires
+set-alt-requires c κs = search needs
+
+returns : tie.Need-returns
+unfolding onEnterImage
+returns c = then-unlent (opens-media (c .before .open-media .ensures)) (lifts-sets refl (c .set-alt .ensures))
+
+pub on-enter-image-spec : {M : Type 1} → statement M
+on-enter-image-spec = tie.close (tie.spec open-media-requires set-alt-requires returns)

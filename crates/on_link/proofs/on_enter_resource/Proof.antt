@@ -1,0 +1,29 @@
+-- One after the other.
+use borrow.Author.Needs.{needs}
+use Rattle.on_link.proofs.on_enter_resource.Statement.{statement}
+use Rattle.on_link.proofs.on_enter_resource.Tie as tie
+use mathlib.Core.Path.{refl}
+use native.Mathlib.Omega.{arith}
+use Rattle.machine.specs.OnMedia.{onEnterResource}
+use Rattle.whole.proofs.Media.{empties}
+use Rattle.on_link.proofs.Lifted.{lifts-sets, lifts-ends, lifts-begins, identified}
+use Rattle.on_link.proofs.Chains.{then-unlent, then-from-starts, then-on-starts, then-on-work}
+
+open-requires : tie.Need-open-requires
+open-requires c κs = search needs
+
+empty-destination-requires : tie.Need-empty-destination-requires
+empty-destination-requires c κs = search needs
+
+same-length : tie.Need-same-length
+same-length c = search needs
+
+returns : tie.Need-returns
+unfolding onEnterResource
+returns c =
+    let c1 = c .before .before .before in
+    then-on-starts (lifts-begins refl (c1 .open .ensures) (omega (arith, c1 .open .kept))) (empties (c .empty-destination .ensures))
+
+pub on-enter-resource-spec : {M : Type 1} → statement M
+on-enter-resource-spec =
+    tie.close (tie.spec open-requires empty-destination-requires same-length returns)

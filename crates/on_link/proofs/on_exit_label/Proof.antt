@@ -1,0 +1,32 @@
+-- What was captured is held.
+use borrow.Author.Needs.{needs}
+use Rattle.on_link.proofs.on_exit_label.Statement.{statement}
+use Rattle.on_link.proofs.on_exit_label.Tie as tie
+use native.Mathlib.Omega.{arith}
+use Rattle.machine.specs.OnMedia.{onExitLabel}
+use Rattle.whole.proofs.Media.{stores}
+
+captured-length-requires : tie.Need-captured-length-requires
+captured-length-requires c κs = search needs
+
+store-label-requires : tie.Need-store-label-requires
+store-label-requires c κs = search needs
+
+drop-requires : tie.Need-drop-requires
+drop-requires c κs = search needs
+
+same-length : tie.Need-same-length
+same-length c = search needs
+
+returns : tie.Need-returns
+unfolding onExitLabel
+returns c =
+    let c2 = c .before .before .before in
+    let c1 = c2 .before .before in
+    let k = rw (c1 .captured-length .ensures) at (c2 .store-label .ensures) in
+    stores k (c .drop .ensures) (omega (arith, c2 .store-label .kept))
+
+pub on-exit-label-spec : {M : Type 1} → statement M
+on-exit-label-spec =
+    tie.close
+    (tie.spec captured-length-requires store-label-requires drop-requires same-length returns)

@@ -1,0 +1,192 @@
+// Handlers of links, images and definitions up to their ends, by their Rust names.
+ghost use mathlib.Core.Path.{_≡_};
+ghost use mathlib.Core.Bool.{true, false};
+ghost use Prim.Native.Nat.{_-_};
+ghost use Rattle.machine.specs.Set.{encode};
+ghost use Rattle.machine.specs.Media.{destination, referenceId};
+ghost use Rattle.machine.specs.Command.{_▸_, buffer, drop, set, store, identify};
+ghost use Rattle.machine.specs.OnMedia.{onEnterLink, onEnterImage, onExitLabel, onExitLabelText, onExitReferenceString, onEnterResource, onEnterResourceDestinationString, onExitResourceDestinationString, onExitResourceTitleString, onEnterDefinition, onExitDefinitionLabelString, onEnterDefinitionDestinationString, onExitDefinitionDestinationString, onExitDefinitionTitleString};
+ghost use Rattle.machine.specs.Media as M;
+ghost use Rattle.context.specs.Rel.{Any};
+ghost use Rattle.whole.specs.Whole.{Always, Roomy, Unlent, FromStarts, OnStarts, OnWork};
+ghost use Rattle.on_link.specs.Links.{Handled};
+use context::Context;
+use event::Event;
+use links::Span;
+use whole::Whole;
+
+// ---- links and images
+
+pub fn on_enter_link(b: Whole) -> Whole
+    ensures { λ r. ⌜ Unlent Always Any onEnterLink b r ⌝ }
+{
+    let mut r = b;
+    r.links = links::open_media(b.links, false);
+    r
+}
+
+// In an image's text there are no tags.
+pub fn on_enter_image(b: Whole) -> Whole
+    ensures { λ r. ⌜ Unlent Always Any onEnterImage b r ⌝ }
+{
+    let mut r = b;
+    r.links = links::open_media(b.links, true);
+    r.context = context::set_alt(b.context, true);
+    r
+}
+
+// How many bytes the newest capture has.
+pub fn captured_length(c: Context) -> usize
+    ensures { λ r. ⌜ r ≡ c .buffers .end - c .buffers .start ⌝ }
+{
+    let from = c.buffers.start;
+    let to = c.buffers.end;
+    if to < from {
+        return 0;
+    }
+    to - from
+}
+
+pub fn on_exit_label(b: Whole, work: &mut [u8], starts: &[usize]) -> Whole
+    ensures { λ r. ⌜ OnWork Roomy Any onExitLabel b (now (work .entry)) (now (starts .entry)) r (now (work .exit)) ⌝ }
+{
+    let mut r = b;
+    let mut c = b.context;
+    let from = c.buffers.start;
+    let n = captured_length(c);
+    r.links = links::store_label(b.links, work, from, n);
+    c.buffers = buffers::drop(b.context.buffers, starts);
+    r.context = c;
+    r
+}
+
+pub fn on_exit_label_text(b: Whole, e: Event) -> Whole
+    ensures { λ r. ⌜ Unlent Always (Handled e) onExitLabelText b r ⌝ }
+{
+    let mut r = b;
+    let from = e.from;
+    let to = e.to;
+    let p = Span { from, to };
+    r.links = links::identify_label(b.links, p);
+    r
+}
+
+// The label is taken from the text, not as captured.
+fn identify_reference(b: Whole, e: Event, starts: &[usize]) -> Whole
+    ensures { λ r. ⌜ FromStarts Roomy (Handled e) (drop ▸ identify referenceId) b (now (starts .entry)) r ⌝ }
+{
+    let mut r = b;
+    let from = e.from;
+    let to = e.to;
+    let p = Span { from, to };
+    r.context = context::drop(b.context, starts);
+    r.links = links::identify_reference(b.links, p);
+    r
+}
+
+pub fn on_exit_reference_string(b: Whole, e: Event, starts: &[usize]) -> Whole
+    ensures { λ r. ⌜ FromStarts Roomy (Handled e) onExitReferenceString b (now (starts .entry)) r ⌝ }
+{
+    identify_reference(b, e, starts)
+}
+
+// ---- resources
+
+// Line endings in the resource are captured, and dropped.
+pub fn on_enter_resource(b: Whole, starts: &mut [usize]) -> Whole
+    ensures { λ r. ⌜ OnStarts Always Any onEnterResource b (now (starts .entry)) r (now (starts .exit)) ⌝ }
+{
+    let mut r = b;
+    r.context = context::open(b.context, starts);
+    r.links = links::empty_destination(b.links);
+    r
+}
+
+// A URL is encoded when it is written.
+fn open_destination(b: Whole, starts: &mut [usize]) -> Whole
+    ensures { λ r. ⌜ OnStarts Always Any (buffer ▸ set encode false) b (now (starts .entry)) r (now (starts .exit)) ⌝ }
+{
+    let mut r = b;
+    let c = context::open(b.context, starts);
+    r.context = context::set_encode(c, false);
+    r
+}
+
+fn store_destination(b: Whole, work: &mut [u8], starts: &[usize]) -> Whole
+    ensures { λ r. ⌜ OnWork Roomy Any (store destination ▸ set encode true) b (now (work .entry)) (now (starts .entry)) r (now (work .exit)) ⌝ }
+{
+    let mut r = b;
+    let mut c = b.context;
+    let from = c.buffers.start;
+    let n = captured_length(c);
+    r.links = links::store_destination(b.links, work, from, n);
+    c.buffers = buffers::drop(b.context.buffers, starts);
+    r.context = context::set_encode(c, true);
+    r
+}
+
+fn store_title(b: Whole, work: &mut [u8], starts: &[usize]) -> Whole
+    ensures { λ r. ⌜ OnWork Roomy Any (store M.title) b (now (work .entry)) (now (starts .entry)) r (now (work .exit)) ⌝ }
+{
+    let mut r = b;
+    let mut c = b.context;
+    let from = c.buffers.start;
+    let n = captured_length(c);
+    r.links = links::store_title(b.links, work, from, n);
+    c.buffers = buffers::drop(b.context.buffers, starts);
+    r.context = c;
+    r
+}
+
+pub fn on_enter_resource_destination_string(b: Whole, starts: &mut [usize]) -> Whole
+    ensures { λ r. ⌜ OnStarts Always Any onEnterResourceDestinationString b (now (starts .entry)) r (now (starts .exit)) ⌝ }
+{
+    open_destination(b, starts)
+}
+
+pub fn on_exit_resource_destination_string(b: Whole, work: &mut [u8], starts: &[usize]) -> Whole
+    ensures { λ r. ⌜ OnWork Roomy Any onExitResourceDestinationString b (now (work .entry)) (now (starts .entry)) r (now (work .exit)) ⌝ }
+{
+    store_destination(b, work, starts)
+}
+
+pub fn on_exit_resource_title_string(b: Whole, work: &mut [u8], starts: &[usize]) -> Whole
+    ensures { λ r. ⌜ OnWork Roomy Any onExitResourceTitleString b (now (work .entry)) (now (starts .entry)) r (now (work .exit)) ⌝ }
+{
+    store_title(b, work, starts)
+}
+
+// ---- definitions
+
+pub fn on_enter_definition(b: Whole, starts: &mut [usize]) -> Whole
+    ensures { λ r. ⌜ OnStarts Always Any onEnterDefinition b (now (starts .entry)) r (now (starts .exit)) ⌝ }
+{
+    let mut r = b;
+    r.context = context::open(b.context, starts);
+    r.links = links::open_media(b.links, false);
+    r
+}
+
+pub fn on_exit_definition_label_string(b: Whole, e: Event, starts: &[usize]) -> Whole
+    ensures { λ r. ⌜ FromStarts Roomy (Handled e) onExitDefinitionLabelString b (now (starts .entry)) r ⌝ }
+{
+    identify_reference(b, e, starts)
+}
+
+pub fn on_enter_definition_destination_string(b: Whole, starts: &mut [usize]) -> Whole
+    ensures { λ r. ⌜ OnStarts Always Any onEnterDefinitionDestinationString b (now (starts .entry)) r (now (starts .exit)) ⌝ }
+{
+    open_destination(b, starts)
+}
+
+pub fn on_exit_definition_destination_string(b: Whole, work: &mut [u8], starts: &[usize]) -> Whole
+    ensures { λ r. ⌜ OnWork Roomy Any onExitDefinitionDestinationString b (now (work .entry)) (now (starts .entry)) r (now (work .exit)) ⌝ }
+{
+    store_destination(b, work, starts)
+}
+
+pub fn on_exit_definition_title_string(b: Whole, work: &mut [u8], starts: &[usize]) -> Whole
+    ensures { λ r. ⌜ OnWork Roomy Any onExitDefinitionTitleString b (now (work .entry)) (now (starts .entry)) r (now (work .exit)) ⌝ }
+{
+    store_title(b, work, starts)
+}

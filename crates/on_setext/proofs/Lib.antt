@@ -1,0 +1,2 @@
+pub mod Dashes
+pub mod Released

@@ -1,0 +1,55 @@
+-- One after the other.
+use borrow.Author.Needs.{needs}
+use Rattle.on_setext.proofs.push_end.Statement.{statement}
+use Rattle.on_setext.proofs.push_end.Tie as tie
+use native.Mathlib.Omega.{arith}
+use Rattle.context.proofs.Commands.{any, seq, puts, whether-yes, whether-no}
+
+slice-aggregate-push : tie.Need-slice-aggregate-push
+slice-aggregate-push c = search needs
+
+push-requires : tie.Need-push-requires
+push-requires c κs = search needs
+
+push-rank-requires : tie.Need-push-rank-requires
+push-rank-requires c κs = search needs
+
+slice-aggregate-push-2 : tie.Need-slice-aggregate-push-2
+slice-aggregate-push-2 c = search needs
+
+push-requires-2 : tie.Need-push-requires-2
+push-requires-2 c κs = search needs
+
+same-length : tie.Need-same-length
+same-length c =
+    let c3 = c .before .before .before .before in
+    let c2 = c3 .before .before .before .before .before .before .before .before in
+    let c1 = c2 .before .before .before .before .before .before .before in
+    omega (arith, (c3 .push2 .kept), (c2 .push-rank .kept), (c1 .push .kept))
+
+same-length-2 : tie.Need-same-length-2
+same-length-2 c =
+    let c3 = c .before .before .before .before in
+    let c2 = c3 .before .before .before .before .before .before .before .before in
+    let c1 = c2 .before .before .before .before .before .before .before in
+    omega (arith, (c3 .push2 .kept), (c2 .push-rank .kept), (c1 .push .kept))
+
+returns : tie.Need-returns
+returns c =
+    let c3 = c .before .before .before .before in
+    let c2 = c3 .before .before .before .before .before .before .before .before in
+    let c1 = c2 .before .before .before .before .before .before .before in
+    seq (puts (c1 .push .ensures)) (seq (c2 .push-rank .ensures) (puts (c3 .push2 .ensures)))
+
+pub push-end-spec : {M : Type 1} → statement M
+push-end-spec =
+    tie.close
+    (tie.spec
+    slice-aggregate-push
+    push-requires
+    push-rank-requires
+    slice-aggregate-push-2
+    push-requires-2
+    same-length
+    same-length-2
+    returns)

@@ -1,0 +1,3 @@
+pub mod Showing
+pub mod Pages
+pub mod Steady
