@@ -4,7 +4,7 @@ use Prim.Native.Nat.{ℕ}
 use Rattle.machine.specs.Turn.{Turn}
 use Rattle.machine.specs.Command.{Command, _▸_}
 use Rattle.whole.specs.declared.Whole.{Whole}
-use Rattle.whole.specs.Whole.{World, Always, Unlent, FromStarts, OnStarts, OnWork, withStarts, withWork}
+use Rattle.whole.specs.Whole.{Always, Unlent, FromStarts, OnStarts, OnWork, withStarts, withWork}
 use Rattle.whole.proofs.Lifts.{then}
 
 module _ {N : Whole → Type 0} {View : Turn → Type 0} {d e : Command} {b r q : Whole} where

@@ -1,15 +1,15 @@
 -- Calls that touch the context alone, as handlers of the whole, by what they are lent; and a label by its event. Assumes nothing.
 use mathlib.Core.Path.{_≡_, refl}
 use mathlib.Core.Bool.{true}
-use mathlib.Core.List.{List, _++_}
+use mathlib.Core.List.{List}
 use Prim.Native.Nat.{ℕ}
-use lib.ListN.{length, take, drop, take-append-drop}
+use lib.ListN.{length, take, take-append-drop}
 use Rattle.event.specs.declared.Event.{Event}
 use Rattle.machine.specs.Turn.{Turn}
 use Rattle.machine.specs.Media.{Id}
 use Rattle.machine.specs.Command.{Command, identify}
 use Rattle.context.specs.declared.Context.{Context}
-use Rattle.context.specs.Rel.{Any, Sees, Sets, Begins, Ends, Takes}
+use Rattle.context.specs.Rel.{Sets, Begins, Ends, Takes}
 use Rattle.context.proofs.Commands.{sets, begins}
 use Rattle.links.specs.declared.Links.{Links}
 use Rattle.links.specs.Links.{Identifies}

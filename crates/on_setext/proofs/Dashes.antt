@@ -1,6 +1,6 @@
 -- The rank by the first byte of the underline. Assumes nothing.
 use mathlib.Core.Path.{_≡_, refl, sym, ap, _∙_}
-use mathlib.Core.Bool.{Bool, true, false}
+use mathlib.Core.Bool.{Bool}
 use mathlib.Core.List.{List, [], _∷_}
 use mathlib.Core.Option.{Option, none, some}
 use Prim.Native.Nat.{ℕ, zero, suc, _≤_, _<_}
@@ -8,7 +8,7 @@ use native.Mathlib.Omega.{arith}
 use lib.Dec.{eqb}
 use lib.ListN.{length, getD, getElem?}
 use Rattle.event.specs.declared.Event.{Event}
-use Rattle.machine.specs.Outcome.{Outcome, stop, go, _>>=_, need}
+use Rattle.machine.specs.Outcome.{go, _>>=_, need}
 use Rattle.machine.specs.Turn.{Turn}
 use Rattle.machine.specs.Test.{isUnderlinedByDashes, test}
 use Rattle.context.specs.declared.Context.{Context}

@@ -1,21 +1,20 @@
 -- A setext heading's text is held, and released. Assumes nothing.
 use mathlib.Core.Path.{_≡_, refl, sym, ap, _∙_}
-use mathlib.Core.Bool.{Bool, true, false}
 use mathlib.Core.List.{List}
 use mathlib.Core.Option.{Option, none, some}
-use Prim.Native.Nat.{ℕ, min, _+_, _≤_, _<_}
+use Prim.Native.Nat.{ℕ, _≤_}
 use native.Mathlib.Omega.{arith}
 use borrow.Author.Tests.{eqb-true}
 use lib.Dec.{eqb}
-use lib.ListN.{length, take, drop}
+use lib.ListN.{length}
 use Rattle.machine.specs.State.{State}
-use Rattle.machine.specs.Outcome.{Outcome, stop, go, _>>=_, need}
+use Rattle.machine.specs.Outcome.{Outcome, go, _>>=_, need}
 use Rattle.machine.specs.Set.{setSetext}
 use Rattle.machine.specs.Buffers.{push}
 use Rattle.machine.specs.Turn.{Turn}
 use Rattle.machine.specs.Totals.{size, mediaSizes, held}
-use Rattle.machine.specs.Command.{Command, release, exec}
-use Rattle.bounded.specs.Within.{one, within}
+use Rattle.machine.specs.Command.{release, exec}
+use Rattle.bounded.specs.Within.{within}
 use Rattle.bounded.proofs.Bounds.{done}
 use Rattle.regions.specs.Regions.{regionAt}
 use Rattle.buffers.specs.declared.Buffers.{Buffers}
@@ -23,12 +22,11 @@ use Rattle.context.proofs.Plain.{never}
 use Rattle.context.proofs.Laws.{withBuffers}
 use Rattle.links.specs.declared.Links.{Links}
 use Rattle.links.specs.declared.Piece.{Piece}
-use Rattle.links.specs.declared.Text.{Text}
 use Rattle.links.specs.declared.Text.the-variants as T
-use Rattle.links.specs.Links.{Linked, PieceIs, TextIs, Releases}
+use Rattle.links.specs.Links.{PieceIs, TextIs, Releases}
 use Rattle.whole.specs.declared.Whole.{Whole}
 use Rattle.whole.specs.Whole.{World, Built, Held, OnPage, withLinks, withContext}
-use Rattle.whole.proofs.Parts.{Alike, rel-alike, keeps-same}
+use Rattle.whole.proofs.Parts.{rel-alike, keeps-same}
 use Rattle.whole.proofs.Media.{cc-go}
 use Rattle.whole.proofs.Shown.{shown}
 use Rattle.show.specs.Show.{asIs, ShowsPiece}

@@ -1,6 +1,6 @@
 -- Handlers of the context alone by the work bytes and the page; how handlers go together there. Assumes nothing.
 use mathlib.Core.Path.{_≡_, refl, sym, ap, _∙_}
-use mathlib.Core.Bool.{Bool, true}
+use mathlib.Core.Bool.{true}
 use mathlib.Core.List.{List, _++_}
 use Prim.Native.Nat.{ℕ, _<_}
 use native.Mathlib.Omega.{arith}
@@ -11,7 +11,7 @@ use Rattle.machine.specs.Turn.{Turn}
 use Rattle.machine.specs.Command.{Command, _▸_}
 use Rattle.bounded.specs.Within.{within}
 use Rattle.context.specs.declared.Context.{Context}
-use Rattle.context.specs.Rel.{Any, Keeps}
+use Rattle.context.specs.Rel.{Keeps}
 use Rattle.whole.specs.declared.Whole.{Whole}
 use Rattle.whole.specs.Quiet.{isQuiet}
 use Rattle.whole.specs.Whole.{World, Always, Handles, OnPage, withContext, withOut, withWork}

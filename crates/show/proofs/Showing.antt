@@ -1,17 +1,15 @@
 -- Parts of the work bytes are pieces of its regions; one text behind another is one text. Assumes nothing.
-use mathlib.Core.Path.{_≡_, refl, sym, ap, _∙_}
-use mathlib.Core.Bool.{Bool, true}
+use mathlib.Core.Path.{_≡_, sym, _∙_}
+use mathlib.Core.Bool.{Bool}
 use mathlib.Core.List.{List, [], _∷_, _++_, append-assoc}
-use Prim.Native.Nat.{ℕ, _+_, _≤_, _<_}
+use Prim.Native.Nat.{ℕ, _+_, _<_}
 use native.Mathlib.Omega.{arith}
-use lib.ListN.{length, take, drop, length-take}
-use lib.Seq.{take-at, drop-at}
+use lib.ListN.{length, take, drop}
 use Rattle.machine.specs.State.{State}
 use Rattle.machine.specs.Set.{setCaptures}
 use Rattle.machine.specs.Buffers.{push}
 use Rattle.machine.specs.Turn.{urlOf}
 use Rattle.machine.specs.declared.Options.{Options}
-use Rattle.regions.specs.Regions.{regionAt}
 use Rattle.buffers.specs.declared.Buffers.{Buffers}
 use Rattle.buffers.specs.Stand.{Keeps}
 use Rattle.parts.specs.Parts.{PushesPart, PushesUrlPart}

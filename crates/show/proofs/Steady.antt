@@ -1,10 +1,10 @@
 -- Commands that leave the sizes of what is held and kept as they are, so that there is room behind them where there was before. Assumes nothing.
-use mathlib.Core.Path.{_≡_, refl, sym, ap, _∙_}
-use mathlib.Core.Bool.{Bool, true}
+use mathlib.Core.Path.{_≡_, refl}
+use mathlib.Core.Bool.{true}
 use mathlib.Core.List.{List}
-use Prim.Native.Nat.{ℕ, min, _≤_}
+use Prim.Native.Nat.{ℕ, _≤_}
 use native.Mathlib.Omega.{arith}
-use Rattle.machine.specs.Outcome.{Outcome, stop, go, _>>=_}
+use Rattle.machine.specs.Outcome.{go}
 use Rattle.machine.specs.State.{State}
 use Rattle.machine.specs.Turn.{Turn}
 use Rattle.machine.specs.Totals.{held, kept}

@@ -3,8 +3,8 @@ use borrow.Author.Needs.{needs}
 use Rattle.on_link.proofs.identify_reference.Statement.{statement}
 use Rattle.on_link.proofs.identify_reference.Tie as tie
 use mathlib.Core.Path.{refl}
-use Rattle.on_link.proofs.Lifted.{lifts-sets, lifts-ends, lifts-begins, identified}
-use Rattle.on_link.proofs.Chains.{then-unlent, then-from-starts, then-on-starts, then-on-work}
+use Rattle.on_link.proofs.Lifted.{lifts-ends, identified}
+use Rattle.on_link.proofs.Chains.{then-from-starts}
 
 drop-requires : tie.Need-drop-requires
 drop-requires c κs = search needs

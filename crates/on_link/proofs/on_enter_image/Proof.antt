@@ -5,8 +5,8 @@ use Rattle.on_link.proofs.on_enter_image.Tie as tie
 use mathlib.Core.Path.{refl}
 use Rattle.machine.specs.OnMedia.{onEnterImage}
 use Rattle.whole.proofs.Media.{opens-media}
-use Rattle.on_link.proofs.Lifted.{lifts-sets, lifts-ends, lifts-begins, identified}
-use Rattle.on_link.proofs.Chains.{then-unlent, then-from-starts, then-on-starts, then-on-work}
+use Rattle.on_link.proofs.Lifted.{lifts-sets}
+use Rattle.on_link.proofs.Chains.{then-unlent}
 
 open-media-requires : tie.Need-open-media-requires
 open-media-requires c κs = search needs

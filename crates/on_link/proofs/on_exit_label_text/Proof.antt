@@ -3,7 +3,7 @@ use borrow.Author.Needs.{needs}
 use Rattle.on_link.proofs.on_exit_label_text.Statement.{statement}
 use Rattle.on_link.proofs.on_exit_label_text.Tie as tie
 use Rattle.machine.specs.OnMedia.{onExitLabelText}
-use Rattle.on_link.proofs.Lifted.{lifts-sets, lifts-ends, lifts-begins, identified}
+use Rattle.on_link.proofs.Lifted.{identified}
 
 identify-label-requires : tie.Need-identify-label-requires
 identify-label-requires c κs = search needs

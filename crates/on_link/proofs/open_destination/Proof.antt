@@ -4,8 +4,8 @@ use Rattle.on_link.proofs.open_destination.Statement.{statement}
 use Rattle.on_link.proofs.open_destination.Tie as tie
 use mathlib.Core.Path.{refl}
 use native.Mathlib.Omega.{arith}
-use Rattle.on_link.proofs.Lifted.{lifts-sets, lifts-ends, lifts-begins, identified}
-use Rattle.on_link.proofs.Chains.{then-unlent, then-from-starts, then-on-starts, then-on-work}
+use Rattle.on_link.proofs.Lifted.{lifts-sets, lifts-begins}
+use Rattle.on_link.proofs.Chains.{then-on-starts}
 
 open-requires : tie.Need-open-requires
 open-requires c κs = search needs

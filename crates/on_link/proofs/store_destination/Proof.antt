@@ -5,8 +5,8 @@ use Rattle.on_link.proofs.store_destination.Tie as tie
 use mathlib.Core.Path.{refl}
 use native.Mathlib.Omega.{arith}
 use Rattle.whole.proofs.Media.{stores}
-use Rattle.on_link.proofs.Lifted.{lifts-sets, lifts-ends, lifts-begins, identified}
-use Rattle.on_link.proofs.Chains.{then-unlent, then-from-starts, then-on-starts, then-on-work}
+use Rattle.on_link.proofs.Lifted.{lifts-sets}
+use Rattle.on_link.proofs.Chains.{then-on-work}
 
 captured-length-requires : tie.Need-captured-length-requires
 captured-length-requires c κs = search needs

@@ -5,8 +5,8 @@ use Rattle.on_setext.proofs.on_exit_heading_setext_underline_sequence.T
 use mathlib.Core.Path.{refl}
 use native.Mathlib.Omega.{arith}
 use Rattle.show.proofs.Steady.{quiet-steady, then-steady-page}
-use Rattle.show.proofs.Pages.{too-short, lifts-page, then-on-page, narrow-page, needs-page, same-within, regroup-four}
-use Rattle.on_setext.proofs.Dashes.{tells-dashes, underlined}
+use Rattle.show.proofs.Pages.{then-on-page, narrow-page, needs-page, same-within, regroup-four}
+use Rattle.on_setext.proofs.Dashes.{underlined}
 use Rattle.machine.specs.OnFlow.{setextRank, onExitHeadingSetextUnderlineSequence}
 use Rattle.machine.specs.Command.{_▸_, put, lineEndingIfNeeded, release}
 

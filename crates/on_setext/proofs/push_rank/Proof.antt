@@ -2,8 +2,8 @@
 use borrow.Author.Needs.{needs}
 use Rattle.on_setext.proofs.push_rank.Statement.{statement}
 use Rattle.on_setext.proofs.push_rank.Tie as tie
-use Rattle.context.proofs.Commands.{any, seq, puts, whether-yes, whether-no}
-use Rattle.on_setext.proofs.Dashes.{tells-dashes, underlined}
+use Rattle.context.proofs.Commands.{puts, whether-yes, whether-no}
+use Rattle.on_setext.proofs.Dashes.{tells-dashes}
 use Rattle.machine.specs.OnFlow.{setextRank}
 
 slice-aggregate-push : tie.Need-slice-aggregate-push

@@ -2,7 +2,7 @@
 use borrow.Author.Needs.{needs}
 use Rattle.show.proofs.push_url_piece.Statement.{statement}
 use Rattle.show.proofs.push_url_piece.Tie as tie
-use Rattle.show.proofs.Showing.{shows-far, shows-piece, shows-url}
+use Rattle.show.proofs.Showing.{shows-far, shows-url}
 
 returns : tie.Need-returns
 returns c = shows-far (search needs)

@@ -1,0 +1,5 @@
+pub mod Sought
+pub mod Seeks
+pub mod Stays
+pub mod Pieces
+pub mod Keeps

@@ -1,0 +1,176 @@
+// Definitions: kept where one ends, and sought where a link or an image ends.
+ghost use mathlib.Core.Path.{_≡_};
+ghost use Prim.Native.Nat.{suc, min, _+_};
+ghost use Rattle.machine.specs.Command.{seekDefinition, keepDefinition};
+ghost use Rattle.machine.specs.OnMedia.{onExitDefinition};
+ghost use Rattle.whole.specs.Whole.{Held, Roomy};
+ghost use Rattle.on_definition.specs.Definitions.{Known, FromDefinitions, OnDefinitions};
+ghost use Rattle.on_definition.specs.Private.{soughtOf, ownPiece, textPiece, wordOf, SeeksAt, SeeksLabel, KeepsAt, KeepsNewest};
+use links::Destination;
+use links::Label;
+use links::Media;
+use links::Piece;
+use links::Span;
+use links::Text;
+use normalize_identifier::Found;
+use whole::Whole;
+
+// ---- sought
+
+// The reference string, else the label text.
+fn sought_label(m: Media) -> Label
+    ensures { λ r. ⌜ r ≡ soughtOf m ⌝ }
+{
+    let reference = m.reference_id;
+    let label = m.label_id;
+    match reference {
+        Label::Unset => label,
+        Label::Is(p) => Label::Is(p),
+    }
+}
+
+fn seek_at(b: Whole, p: Span, text: &[u8], definitions: &[usize]) -> Whole
+    ensures { λ r. ⌜ SeeksAt p b (now (text .entry)) (now (definitions .entry)) r ⌝ }
+{
+    let from = p.from.0;
+    let to = p.to.0;
+    let found = kept::find_definition(b.kept, text, from, to, definitions);
+    match found {
+        Found::Nothing => b,
+        Found::At(k) => {
+            let mut r = b;
+            r.links = links::lead_to(b.links, k);
+            r
+        }
+    }
+}
+
+fn seek_label(b: Whole, text: &[u8], definitions: &[usize]) -> Whole
+    ensures { λ r. ⌜ SeeksLabel b (now (text .entry)) (now (definitions .entry)) r ⌝ }
+{
+    let l = b.links;
+    let label = sought_label(l.media);
+    match label {
+        Label::Unset => b,
+        Label::Is(p) => seek_at(b, p, text, definitions),
+    }
+}
+
+// A link without a destination of its own leads to the definition of its label.
+pub fn seek_definition(b: Whole, text: &[u8], definitions: &[usize]) -> Whole
+    ensures { λ r. ⌜ FromDefinitions Known seekDefinition b (now (text .entry)) (now (definitions .entry)) r ⌝ }
+{
+    let l = b.links;
+    let m = l.media;
+    let destination = m.destination;
+    match destination {
+        Destination::Nowhere => seek_label(b, text, definitions),
+        Destination::Own(_) => b,
+        Destination::Defined(_) => b,
+    }
+}
+
+// ---- kept
+
+fn own_piece(d: Destination) -> Piece
+    ensures { λ r. ⌜ r ≡ ownPiece d ⌝ }
+{
+    let none = Piece {
+        place: 0,
+        length: 0,
+    };
+    match d {
+        Destination::Nowhere => none,
+        Destination::Own(p) => p,
+        Destination::Defined(_) => none,
+    }
+}
+
+fn text_piece(t: Text) -> Piece
+    ensures { λ r. ⌜ r ≡ textPiece t ⌝ }
+{
+    let none = Piece {
+        place: 0,
+        length: 0,
+    };
+    match t {
+        Text::Unset => none,
+        Text::Is(p) => p,
+    }
+}
+
+// A place or length within a region.
+pub fn at_most(n: usize) -> usize
+    ensures { λ r. ⌜ r ≡ min n 16384 ⌝ }
+{
+    if 16384 < n {
+        return 16384;
+    }
+    n
+}
+
+// 0 without a title, else one more than its length.
+fn word_of(t: Text) -> usize
+    ensures { λ r. ⌜ r ≡ wordOf t ⌝ }
+{
+    match t {
+        Text::Unset => 0,
+        Text::Is(p) => {
+            let n = at_most(p.length);
+            n + 1
+        }
+    }
+}
+
+fn keep_at(b: Whole, p: Span, work: &mut [u8], definitions: &mut [usize]) -> Whole
+    ensures { λ r. ⌜ KeepsAt p b (now (work .entry)) (now (definitions .entry)) r (now (work .exit)) (now (definitions .exit)) ⌝ }
+{
+    let l = b.links;
+    let m = l.media;
+    let d = m.destination;
+    let t = m.title;
+    let own = own_piece(d);
+    let title = text_piece(t);
+    let word = word_of(t);
+    let place = at_most(own.place);
+    let title_place = at_most(title.place);
+    let mut r = b;
+    r.kept = kept::keep_definition(
+        b.kept,
+        p.from.0,
+        p.to.0,
+        16384 + place,
+        own.length,
+        16384 + title_place,
+        word,
+        work,
+        definitions,
+    );
+    r.links = links::close_media(b.links);
+    r
+}
+
+fn keep_newest(b: Whole, work: &mut [u8], definitions: &mut [usize]) -> Whole
+    ensures { λ r. ⌜ KeepsNewest b (now (work .entry)) (now (definitions .entry)) r (now (work .exit)) (now (definitions .exit)) ⌝ }
+{
+    let l = b.links;
+    let m = l.media;
+    let label = m.reference_id;
+    match label {
+        Label::Unset => b,
+        Label::Is(p) => keep_at(b, p, work, definitions),
+    }
+}
+
+pub fn on_exit_definition(
+    b: Whole,
+    work: &mut [u8],
+    starts: &[usize],
+    definitions: &mut [usize],
+) -> Whole
+    ensures { λ r. ⌜ OnDefinitions Roomy onExitDefinition b (now (work .entry)) (now (starts .entry)) (now (definitions .entry)) r (now (work .exit)) (now (definitions .exit)) ⌝ }
+{
+    let mut r = b;
+    r.context = context::drop(b.context, starts);
+    keep_newest(r, work, definitions)
+}

@@ -1,0 +1,33 @@
+-- By the answer.
+use borrow.Author.Needs.{needs}
+use Rattle.on_media.proofs.push_label.Statement.{statement}
+use Rattle.on_media.proofs.push_label.Tie as tie
+use Rattle.on_media.proofs.Tests.{image-known, page-yes, page-no, page-idle}
+
+is-image-requires : tie.Need-is-image-requires
+is-image-requires c κs = search needs
+
+show-label-requires : tie.Need-show-label-requires
+show-label-requires c κs = search needs
+
+same-length : tie.Need-same-length
+same-length c = search needs
+
+same-length-2 : tie.Need-same-length-2
+same-length-2 c = search needs
+
+returns : tie.Need-returns
+returns c =
+    let c2 = c .before .before .before .before in
+    let c1 = c2 .before .before .before .before in
+    page-yes (image-known (c1 .is-image .ensures)) (search needs) (c2 .show-label .ensures)
+
+returns-2 : tie.Need-returns-2
+returns-2 c =
+    let c1 = c .before in
+    page-no (image-known (c1 .is-image .ensures)) (search needs) page-idle
+
+pub push-label-spec : {M : Type 1} → statement M
+push-label-spec =
+    tie.close
+    (tie.spec is-image-requires show-label-requires same-length same-length-2 returns returns-2)
