@@ -16,10 +16,10 @@ use Rattle.context.specs.Rel.{Keeps, Begins, Sets, HtmlAllowed}
 use Rattle.context.proofs.Commands.{first-goes, narrow}
 use Rattle.on_list.specs.Lists.{OpensList}
 use Rattle.table.specs.Table.{IsEvent}
-use Rattle.turns.specs.Turns.{TurnAt}
+use Rattle.turns.specs.Turns.{TurnAt, Among}
 use Rattle.turns.proofs.Turns.{seen-as}
 use Rattle.enters.specs.Enters.{Enters}
-use Rattle.enters.specs.Private.{Of, Among}
+use Rattle.enters.specs.Private.{Of}
 
 -- a capture is opened, and something set behind it
 pub begins-first : {d e : Command} {c r q : Context} {starts starts′ : List ℕ} → Begins d c starts r starts′ → Sets e r q → Begins (d ▸ e) c starts q starts′
@@ -46,7 +46,7 @@ html t v = record { allowed-is = v .allowed-is }
 -- ---- a group's promise is the whole's
 
 module _ {lo hi : ℕ} {e : Event} {allowed : Bool} {c r : Context} {captures starts out captures′ starts′ out′ : List ℕ} where
-  entered : {View : Turn → Type 0} → ((t : Turn) → t .event ≡ e → t .options .«allow_dangerous_html» ≡ allowed → View t) → Among lo hi View e c captures starts out r captures′ starts′ out′ → lo ≤ e .name → e .name ≤ hi → Enters e allowed c captures starts out r captures′ starts′ out′
+  entered : {View : Turn → Type 0} → ((t : Turn) → t .event ≡ e → t .options .«allow_dangerous_html» ≡ allowed → View t) → Among true lo hi View e c captures starts out r captures′ starts′ out′ → lo ≤ e .name → e .name ≤ hi → Enters e allowed c captures starts out r captures′ starts′ out′
   entered f k a b =
       record {
         enters = λ h text events o i p q. record {
@@ -54,8 +54,8 @@ module _ {lo hi : ℕ} {e : Event} {allowed : Bool} {c r : Context} {captures st
         };
       }
 
-  pub by-event : Among lo hi (IsEvent e) e c captures starts out r captures′ starts′ out′ → lo ≤ e .name → e .name ≤ hi → Enters e allowed c captures starts out r captures′ starts′ out′
+  pub by-event : Among true lo hi (IsEvent e) e c captures starts out r captures′ starts′ out′ → lo ≤ e .name → e .name ≤ hi → Enters e allowed c captures starts out r captures′ starts′ out′
   by-event = entered (λ t p q. record { event-is = p })
 
-  pub by-options : Among lo hi (Of e allowed) e c captures starts out r captures′ starts′ out′ → lo ≤ e .name → e .name ≤ hi → Enters e allowed c captures starts out r captures′ starts′ out′
+  pub by-options : Among true lo hi (Of e allowed) e c captures starts out r captures′ starts′ out′ → lo ≤ e .name → e .name ≤ hi → Enters e allowed c captures starts out r captures′ starts′ out′
   by-options = entered (λ t p q. record { event-is = p; allowed-is = q })

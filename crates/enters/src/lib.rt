@@ -1,12 +1,13 @@
 // An enter goes to its handler by its name, where that leaves media, labels, the setext text and what is kept alone; elsewhere the state is left as it is.
-ghost use mathlib.Core.Bool.{false};
+ghost use mathlib.Core.Bool.{true};
 ghost use Rattle.machine.specs.OnList.{onEnterList};
 ghost use Rattle.machine.specs.OnMedia.{onEnterResourceDestinationString};
 ghost use Rattle.machine.specs.OnFootnote.{onEnterGfmFootnoteDefinition};
 ghost use Rattle.context.specs.Rel.{Keeps, Begins, Sets};
 ghost use Rattle.table.specs.Table.{IsEvent};
+ghost use Rattle.turns.specs.Turns.{Among};
 ghost use Rattle.enters.specs.Enters.{Enters};
-ghost use Rattle.enters.specs.Private.{Among, Of};
+ghost use Rattle.enters.specs.Private.{Of};
 use context::Context;
 use event::Event;
 
@@ -40,7 +41,7 @@ fn enter_block(
     starts: &mut [usize],
     out: &mut [u8],
 ) -> Context
-    ensures { λ r. ⌜ Among 0 32 (IsEvent e) e c (now (captures .entry)) (now (starts .entry)) (now (out .entry)) r (now (captures .exit)) (now (starts .exit)) (now (out .exit)) ⌝ }
+    ensures { λ r. ⌜ Among true 0 32 (IsEvent e) e c (now (captures .entry)) (now (starts .entry)) (now (out .entry)) r (now (captures .exit)) (now (starts .exit)) (now (out .exit)) ⌝ }
 {
     let name = e.name;
     match name {
@@ -68,7 +69,7 @@ fn enter_inline(
     starts: &mut [usize],
     out: &mut [u8],
 ) -> Context
-    ensures { λ r. ⌜ Among 33 56 (Of e allowed) e c (now (captures .entry)) (now (starts .entry)) (now (out .entry)) r (now (captures .exit)) (now (starts .exit)) (now (out .exit)) ⌝ }
+    ensures { λ r. ⌜ Among true 33 56 (Of e allowed) e c (now (captures .entry)) (now (starts .entry)) (now (out .entry)) r (now (captures .exit)) (now (starts .exit)) (now (out .exit)) ⌝ }
 {
     let name = e.name;
     match name {
@@ -96,7 +97,7 @@ fn enter_gfm(
     starts: &mut [usize],
     out: &mut [u8],
 ) -> Context
-    ensures { λ r. ⌜ Among 57 255 (IsEvent e) e c (now (captures .entry)) (now (starts .entry)) (now (out .entry)) r (now (captures .exit)) (now (starts .exit)) (now (out .exit)) ⌝ }
+    ensures { λ r. ⌜ Among true 57 255 (IsEvent e) e c (now (captures .entry)) (now (starts .entry)) (now (out .entry)) r (now (captures .exit)) (now (starts .exit)) (now (out .exit)) ⌝ }
 {
     let name = e.name;
     match name {

@@ -18,10 +18,11 @@ use Rattle.context.specs.declared.Context.{Context}
 use Rattle.context.specs.Rel.{Any, Sees, FenceBefore, Keeps, Begins, Ends}
 use Rattle.context.proofs.Commands.{first-goes, narrow}
 use Rattle.on_list.specs.Lists.{IsOrdered, LooksBack}
-use Rattle.turns.specs.Turns.{TurnAt}
+use Rattle.turns.specs.Turns.{TurnAt, Among}
 use Rattle.turns.proofs.Turns.{seen-as}
+use Rattle.turns.proofs.Arms.{handlerAt, arm}
 use Rattle.exits_flow.specs.Exits.{isInLine, Exits, Renews}
-use Rattle.exits_flow.specs.Private.{After, Here, Among}
+use Rattle.exits_flow.specs.Private.{After, Here}
 
 -- a capture is taken off, and another opened
 pub renewed : {d e : Command} {c r q : Context} {starts starts′ : List ℕ} → Ends d c starts r → Begins e r starts q starts′ → Renews (d ▸ e) c starts q starts′
@@ -77,14 +78,18 @@ from-links n h p =
 -- ---- a group's promise is the whole's
 
 module _ {lo hi : ℕ} {text events : List ℕ} {i : ℕ} {e : Event} {c r : Context} {captures starts out captures′ starts′ out′ : List ℕ} where
-  exited : {View : Turn → Type 0} → ((o : Options) → eventAt events i ≡ e → (t : Turn) → TurnAt text events o i t → View t) → (isInLine (e .name) ≡ false → lo ≤ e .name) → e .name ≤ hi → Among lo hi View e c captures starts out r captures′ starts′ out′ → Exits text events i e c captures starts out r captures′ starts′ out′
+  exited : {View : Turn → Type 0} → ((o : Options) → eventAt events i ≡ e → (t : Turn) → TurnAt text events o i t → View t) → (isInLine (e .name) ≡ false → lo ≤ e .name) → e .name ≤ hi → Among false lo hi View e c captures starts out r captures′ starts′ out′ → Exits text events i e c captures starts out r captures′ starts′ out′
   exited f a b k = record { exits = λ o p h n. record { dispatches = λ quiet. seen-as (f o p) (k .among h (a n) b .dispatches quiet) } }
 
-  pub by-event : (isInLine (e .name) ≡ false → lo ≤ e .name) → e .name ≤ hi → Among lo hi (Sees text e) e c captures starts out r captures′ starts′ out′ → Exits text events i e c captures starts out r captures′ starts′ out′
+  pub by-event : (isInLine (e .name) ≡ false → lo ≤ e .name) → e .name ≤ hi → Among false lo hi (Sees text e) e c captures starts out r captures′ starts′ out′ → Exits text events i e c captures starts out r captures′ starts′ out′
   by-event = exited (λ o p t v. record { text-is = v .text-is; event-is = v .event-is ∙ p })
 
-  pub by-place : (isInLine (e .name) ≡ false → lo ≤ e .name) → e .name ≤ hi → Among lo hi (Here text events i e) e c captures starts out r captures′ starts′ out′ → Exits text events i e c captures starts out r captures′ starts′ out′
+  pub by-place : (isInLine (e .name) ≡ false → lo ≤ e .name) → e .name ≤ hi → Among false lo hi (Here text events i e) e c captures starts out r captures′ starts′ out′ → Exits text events i e c captures starts out r captures′ starts′ out′
   by-place = exited (λ o p t v. record { sees = record { text-is = v .text-is; event-is = v .event-is ∙ p }; after = record { before-is = v .before-is } })
 
-  pub by-name : (isInLine (e .name) ≡ false → lo ≤ e .name) → e .name ≤ hi → Among lo hi Any e c captures starts out r captures′ starts′ out′ → Exits text events i e c captures starts out r captures′ starts′ out′
+  pub by-name : (isInLine (e .name) ≡ false → lo ≤ e .name) → e .name ≤ hi → Among false lo hi Any e c captures starts out r captures′ starts′ out′ → Exits text events i e c captures starts out r captures′ starts′ out′
   by-name = exited (λ o p t v. record {})
+
+-- an arm that takes a capture off and opens another
+pub renewing : {lo hi : ℕ} {View : Turn → Type 0} {e : Event} {d : Command} {c r : Context} {captures starts out starts′ : List ℕ} (n : ℕ) → e .name ≡ n → handlerAt false n ≡ d → Renews d c starts r starts′ → Among false lo hi View e c captures starts out r captures starts′ out
+renewing {captures = captures} {out = out} n p q k = arm n p q (seen-as (λ t v. record {}) (k .renews captures out))

@@ -1,12 +1,14 @@
 // An exit goes to its handler by its name, but for what stands in a line, where that leaves media, labels, the setext text and what is kept alone; elsewhere the state is left as it is.
+ghost use mathlib.Core.Bool.{false};
 ghost use Prim.Native.Nat.{_/_, _<_};
 ghost use lib.ListN.{length};
 ghost use Rattle.machine.specs.OnFlow.{onExitRawFlow};
 ghost use Rattle.machine.specs.OnList.{onExitListItem};
 ghost use Rattle.machine.specs.OnFootnote.{onExitGfmFootnoteDefinitionPrefix};
 ghost use Rattle.context.specs.Rel.{Any, Sees, Keeps};
+ghost use Rattle.turns.specs.Turns.{Among};
 ghost use Rattle.exits_flow.specs.Exits.{Exits, Renews};
-ghost use Rattle.exits_flow.specs.Private.{After, Here, Among};
+ghost use Rattle.exits_flow.specs.Private.{After, Here};
 use context::Context;
 use event::Event;
 use event::EventIndex;
@@ -56,7 +58,7 @@ fn exit_block(
     starts: &[usize],
     out: &mut [u8],
 ) -> Context
-    ensures { λ r. ⌜ Among 12 22 (Sees (now (text .entry)) e) e c (now (captures .entry)) (now (starts .entry)) (now (out .entry)) r (now (captures .exit)) (now (starts .entry)) (now (out .exit)) ⌝ }
+    ensures { λ r. ⌜ Among false 12 22 (Sees (now (text .entry)) e) e c (now (captures .entry)) (now (starts .entry)) (now (out .entry)) r (now (captures .exit)) (now (starts .entry)) (now (out .exit)) ⌝ }
 {
     let name = e.name;
     match name {
@@ -86,7 +88,7 @@ fn exit_content(
     out: &mut [u8],
 ) -> Context
     requires { ⌜ i .0 < length (now events) / 20 ⌝ }
-    ensures { λ r. ⌜ Among 23 32 (Here (now (text .entry)) (now (events .entry)) (i .0) e) e c (now (captures .entry)) (now (starts .entry)) (now (out .entry)) r (now (captures .exit)) (now (starts .entry)) (now (out .exit)) ⌝ }
+    ensures { λ r. ⌜ Among false 23 32 (Here (now (text .entry)) (now (events .entry)) (i .0) e) e c (now (captures .entry)) (now (starts .entry)) (now (out .entry)) r (now (captures .exit)) (now (starts .entry)) (now (out .exit)) ⌝ }
 {
     let name = e.name;
     match name {
@@ -112,7 +114,7 @@ fn exit_table(
     starts: &mut [usize],
     out: &mut [u8],
 ) -> Context
-    ensures { λ r. ⌜ Among 45 255 Any e c (now (captures .entry)) (now (starts .entry)) (now (out .entry)) r (now (captures .exit)) (now (starts .exit)) (now (out .exit)) ⌝ }
+    ensures { λ r. ⌜ Among false 45 255 Any e c (now (captures .entry)) (now (starts .entry)) (now (out .entry)) r (now (captures .exit)) (now (starts .exit)) (now (out .exit)) ⌝ }
 {
     let name = e.name;
     match name {

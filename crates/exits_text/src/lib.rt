@@ -1,12 +1,14 @@
 // An exit of what stands in a line goes to its handler by its name; where it has none the state is left as it is.
+ghost use mathlib.Core.Bool.{false};
 ghost use mathlib.Core.Path.{_≡_};
 ghost use Prim.Native.Nat.{_/_, _<_};
 ghost use lib.ListN.{length};
 ghost use Rattle.machine.specs.OnText.{onExitLineEnding, onExitBlankLineEnding};
 ghost use Rattle.context.specs.Rel.{Keeps};
 ghost use Rattle.on_inline.specs.View.{SeesWith};
+ghost use Rattle.turns.specs.Turns.{Among};
 ghost use Rattle.exits_text.specs.Exits.{isText, Exits};
-ghost use Rattle.exits_text.specs.Group.{At, Here, Within, Among};
+ghost use Rattle.exits_text.specs.Group.{At, Here};
 use context::Context;
 use event::Event;
 use event::EventIndex;
@@ -62,7 +64,7 @@ fn exit_data(
     out: &mut [u8],
 ) -> Context
     requires { ⌜ i .0 < length (now events) / 20 ⌝ }
-    ensures { λ r. ⌜ Among (Within 0 11) (Here (now (text .entry)) (now (events .entry)) (i .0) e) e c (now (captures .entry)) (now (starts .entry)) (now (out .entry)) r (now (captures .exit)) (now (starts .entry)) (now (out .exit)) ⌝ }
+    ensures { λ r. ⌜ Among false 0 11 (Here (now (text .entry)) (now (events .entry)) (i .0) e) e c (now (captures .entry)) (now (starts .entry)) (now (out .entry)) r (now (captures .exit)) (now (starts .entry)) (now (out .exit)) ⌝ }
 {
     let name = e.name;
     match name {
@@ -94,7 +96,7 @@ fn exit_inline(
     starts: &[usize],
     out: &mut [u8],
 ) -> Context
-    ensures { λ r. ⌜ Among (Within 33 44) (SeesWith (now (text .entry)) e options) e c (now (captures .entry)) (now (starts .entry)) (now (out .entry)) r (now (captures .exit)) (now (starts .entry)) (now (out .exit)) ⌝ }
+    ensures { λ r. ⌜ Among false 33 44 (SeesWith (now (text .entry)) e options) e c (now (captures .entry)) (now (starts .entry)) (now (out .entry)) r (now (captures .exit)) (now (starts .entry)) (now (out .exit)) ⌝ }
 {
     let name = e.name;
     match name {

@@ -1,3 +1,4 @@
 pub mod Turns
+pub mod Arms
 pub mod Passing
 pub mod Lifted

@@ -37,3 +37,7 @@ pub record Turns (View : Turn → Type 0) (d : Command) (c : Context) (captures 
 -- The same for the event's own command, where that leaves media, labels, the setext text and what is kept alone.
 pub record Dispatches (View : Turn → Type 0) (e : Event) (c : Context) (captures starts out : List ℕ) (r : Context) (captures′ starts′ out′ : List ℕ) : Type 0 where
   pub dispatches : isQuiet (commandFor e) ≡ true → Turns View (commandFor e) c captures starts out r captures′ starts′ out′
+
+-- The same for an enter (x true) or exit whose name is one of these: a group of a dispatcher.
+pub record Among (x : Bool) (lo hi : ℕ) (View : Turn → Type 0) (e : Event) (c : Context) (captures starts out : List ℕ) (r : Context) (captures′ starts′ out′ : List ℕ) : Type 0 where
+  pub among : isEnter e ≡ x → lo ≤ e .name → e .name ≤ hi → Dispatches View e c captures starts out r captures′ starts′ out′

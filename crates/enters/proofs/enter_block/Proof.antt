@@ -4,7 +4,7 @@ use mathlib.Core.List.{[], _∷_}
 use borrow.Author.Needs.{needs}
 use Rattle.machine.specs.Handlers.{rows}
 use Rattle.turns.proofs.Turns.{from-keeps}
-use Rattle.enters.proofs.Arms.{arm, keeping, beginning, rest}
+use Rattle.turns.proofs.Arms.{arm, keeping, beginning, rest}
 use Rattle.enters.proofs.enter_block.Statement.{statement}
 use Rattle.enters.proofs.enter_block.Tie as tie
 

@@ -5,7 +5,7 @@ use borrow.Author.Needs.{needs}
 use Rattle.machine.specs.Handlers.{rows}
 use Rattle.machine.specs.OnFootnote.{onEnterGfmFootnoteCall}
 use Rattle.turns.proofs.Turns.{from-keeps, from-sets}
-use Rattle.enters.proofs.Arms.{arm, keeping, opening, beginning, rest}
+use Rattle.turns.proofs.Arms.{arm, keeping, opening, beginning, rest}
 use Rattle.enters.proofs.enter_gfm.Statement.{statement}
 use Rattle.enters.proofs.enter_gfm.Tie as tie
 

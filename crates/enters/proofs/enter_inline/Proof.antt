@@ -5,7 +5,7 @@ use borrow.Author.Needs.{needs}
 use Rattle.machine.specs.Handlers.{rows}
 use Rattle.machine.specs.OnMedia.{onEnterLink, onEnterImage, onEnterResource, onEnterResourceDestinationString, onEnterDefinition, onEnterDefinitionDestinationString}
 use Rattle.turns.proofs.Turns.{from-keeps, from-sets-for, seen-as}
-use Rattle.enters.proofs.Arms.{arm, keeping, opening, beginning, rest}
+use Rattle.turns.proofs.Arms.{arm, keeping, opening, beginning, rest}
 use Rattle.enters.proofs.Laws.{html}
 use Rattle.enters.proofs.enter_inline.Statement.{statement}
 use Rattle.enters.proofs.enter_inline.Tie as tie

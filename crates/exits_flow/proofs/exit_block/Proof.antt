@@ -4,7 +4,7 @@ use mathlib.Core.List.{[], _∷_}
 use borrow.Author.Needs.{needs}
 use Rattle.machine.specs.Handlers.{rows}
 use Rattle.machine.specs.OnFlow.{onExitHeadingSetextText, setextRank, onExitHeadingSetextUnderlineSequence}
-use Rattle.exits_flow.proofs.Arms.{keeping, seeing, taking, rest}
+use Rattle.turns.proofs.Arms.{keeping, seeing, taking, rest}
 use Rattle.exits_flow.proofs.Laws.{itself, ordered, unordered}
 use Rattle.exits_flow.proofs.exit_block.Statement.{statement}
 use Rattle.exits_flow.proofs.exit_block.Tie as tie

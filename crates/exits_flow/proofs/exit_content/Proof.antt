@@ -3,7 +3,7 @@ use mathlib.Core.Path.{refl}
 use mathlib.Core.List.{[], _∷_}
 use borrow.Author.Needs.{needs}
 use Rattle.machine.specs.Handlers.{rows}
-use Rattle.exits_flow.proofs.Arms.{keeping, seeing, taking, ending, rest}
+use Rattle.turns.proofs.Arms.{keeping, seeing, taking, ending, rest}
 use Rattle.exits_flow.proofs.Laws.{of-event, of-place}
 use Rattle.exits_flow.proofs.exit_content.Statement.{statement}
 use Rattle.exits_flow.proofs.exit_content.Tie as tie

@@ -5,7 +5,8 @@ use borrow.Author.Needs.{needs}
 use Rattle.machine.specs.Handlers.{rows}
 use Rattle.machine.specs.OnMedia.{onExitMedia, onExitLabel, onExitLabelText, onExitResourceDestinationString, onExitResourceTitleString, onExitReferenceString, onExitDefinition, onExitDefinitionLabelString, onExitDefinitionDestinationString, onExitDefinitionTitleString}
 use Rattle.machine.specs.OnFootnote.{onExitGfmFootnoteCall, onExitGfmFootnoteDefinition, onExitGfmFootnoteDefinitionLabelString}
-use Rattle.exits_flow.proofs.Arms.{keeping, taking, ending, renewing, rest}
+use Rattle.exits_flow.proofs.Laws.{renewing}
+use Rattle.turns.proofs.Arms.{keeping, taking, ending, rest}
 use Rattle.exits_flow.proofs.exit_table.Statement.{statement}
 use Rattle.exits_flow.proofs.exit_table.Tie as tie
 
