@@ -38,16 +38,17 @@ cc-go : {A : Type 0} {a b : A} → go a ≡ go b → a ≡ b
 cc-go p = cc
 
 -- a test that is passed
-passed : {A : Type 0} (t : Bool) {a b : A} → (if t then go a else stop) ≡ go b → (t ≡ true) × (a ≡ b)
+pub passed : {A : Type 0} (t : Bool) {a b : A} → (if t then go a else stop) ≡ go b → (t ≡ true) × (a ≡ b)
 passed true p = (refl, cc)
 passed false p = never p
 
-record Sliced (text : List ℕ) (e : Event) (b : List ℕ) : Type 0 where
+-- the bytes are the event's slice of the text
+pub record Sliced (text : List ℕ) (e : Event) (b : List ℕ) : Type 0 where
   pub ordered : e .from .0 ≤ e .to .0
-  pub within : e .to .0 ≤ length text
+  pub inside : e .to .0 ≤ length text
   pub bytes : b ≡ take (e .to .0 - e .from .0) (drop (e .from .0) text)
 
-sliced : (text : List ℕ) (e : Event) (b : List ℕ) → strOf text (spanOf e) ≡ go b → Sliced text e b
+pub sliced : (text : List ℕ) (e : Event) (b : List ℕ) → strOf text (spanOf e) ≡ go b → Sliced text e b
 unfolding strOf sliceOf asStr
 sliced text e b p =
     let f = first-goes (sliceOf text (spanOf e)) asStr b p in
@@ -57,7 +58,7 @@ sliced text e b p =
     let r = passed (isUtf8 (f .0)) (f .2) in
     record {
       ordered = leb-true from to (and-left (leb from to) (leb to (length text)) (q .0));
-      within = leb-true to (length text) (and-right (leb from to) (leb to (length text)) (q .0));
+      inside = leb-true to (length text) (and-right (leb from to) (leb to (length text)) (q .0));
       bytes = sym (r .1) ∙ sym (q .1);
     }
 
@@ -69,7 +70,7 @@ unfolding exec within pushEncoded
 is-slice t s = refl
 
 module _ (text : List ℕ) (e : Event) where
-  own-slice : (t : Turn) (b : List ℕ) → Sees text e t → ownStr t ≡ go b → Sliced text e b
+  pub own-slice : (t : Turn) (b : List ℕ) → Sees text e t → ownStr t ≡ go b → Sliced text e b
   own-slice t b v p = sliced text e b (rw (v .text-is, v .event-is) at p)
 
   module _ (d : Command) (f : Turn → State → List ℕ → List ℕ) (is : (t : Turn) (s : State) → within d t s ≡ one true (ownStr t >>= λ b. go (push (f t s b) s))) where
@@ -87,7 +88,7 @@ module _ (text : List ℕ) (e : Event) where
     owned-back h = nowhere (λ b k. omega (arith, k .ordered))
 
     pub owned-out : {c : Context} {w o : List ℕ} → length text < e .to .0 → Keeps (Sees text e) d c w o c w o
-    owned-out h = nowhere (λ b k. omega (arith, k .within))
+    owned-out h = nowhere (λ b k. omega (arith, k .inside))
 
     pub owned-pushes : {c : Context} {w o : List ℕ} (g : List ℕ) → ((t : Turn) (s : State) → Sees text e t → c .flags ≡ s .flags → g ≡ f t s (take (e .to .0 - e .from .0) (drop (e .from .0) text))) → {x : Buffers} {w′ o′ : List ℕ} → Stand.Keeps (push g) (c .buffers) w o x w′ o′
         → Keeps (Sees text e) d c w o (withBuffers x c) w′ o′

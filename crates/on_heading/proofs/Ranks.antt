@@ -28,6 +28,7 @@ use Rattle.context.specs.Rel.{Rel, Any, Sees, Keeps, SetsFor}
 use Rattle.context.proofs.Laws.{withBuffers, rel-buffers, pushed}
 use Rattle.context.proofs.Plain.{never, stands}
 use Rattle.context.proofs.Commands.{first-goes}
+use Rattle.context.proofs.Slices.{passed}
 
 -- ---- kept
 
@@ -53,11 +54,6 @@ rel-rank n r =
       table = r .table;
       ending = r .ending;
     }
-
--- a test that is passed
-passed : {A : Type 0} (t : Bool) {a b : A} → (if t then go a else stop) ≡ go b → (t ≡ true) × (a ≡ b)
-passed true p = (refl, cc)
-passed false p = never p
 
 module _ (text : List ℕ) (e : Event) where
   -- the slice is of the text

@@ -24,14 +24,15 @@ use Rattle.context.specs.Rel.{Sees, Keeps}
 use Rattle.context.proofs.Laws.{withBuffers, rel-buffers, pushed}
 use Rattle.context.proofs.Commands.{first-goes}
 use Rattle.on_inline.specs.View.{SeesWith}
-use Rattle.on_inline.proofs.Own.{sliceIn, Own, own}
+use Rattle.context.proofs.Slices.{Sliced}
+use Rattle.on_inline.proofs.Own.{sliceIn, own}
 
 abbrev addressOf : String → Turn → List ℕ → List ℕ
 addressOf scheme t b = urlOf (t .options) false (bytes scheme ++ b)
 
 module _ {View : Turn → Type 0} {text : List ℕ} {e : Event} (sees : (t : Turn) → View t → Sees text e t) (scheme : String) where
   -- there is a slice, and it is appended behind the scheme
-  went : (t : Turn) (s u : State) → View t → within (url scheme) t s ≡ go u → (b : List ℕ) × Own text e b × (push (addressOf scheme t b) s ≡ u)
+  went : (t : Turn) (s u : State) → View t → within (url scheme) t s ≡ go u → (b : List ℕ) × Sliced text e b × (push (addressOf scheme t b) s ≡ u)
   unfolding exec within
   went t s u v p =
       let q = done true (ownStr t >>= λ b. go (push (addressOf scheme t b) s)) u p .went in

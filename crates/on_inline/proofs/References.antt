@@ -27,7 +27,8 @@ use Rattle.context.proofs.Laws.{withBuffers, rel-buffers, pushed}
 use Rattle.context.proofs.Plain.{never, stands}
 use Rattle.context.proofs.Commands.{first-goes}
 use Rattle.on_inline.specs.Private.{unmarked}
-use Rattle.on_inline.proofs.Own.{sliceIn, Own, own}
+use Rattle.context.proofs.Slices.{Sliced}
+use Rattle.on_inline.proofs.Own.{sliceIn, own}
 
 -- what is needed is there
 needed : {A : Type 0} (x : Option A) (a : A) → need x ≡ go a → x ≡ some a
@@ -52,7 +53,7 @@ record Referred (text : List ℕ) (e : Event) (s u : State) : Type 0 where
   pub value : List ℕ
   pub meaning : List ℕ
   pub waits : s .waiting .marker ≡ some mark
-  pub slice : Own text e value
+  pub slice : Sliced text e value
   pub stands-for : referenceOf mark value ≡ some meaning
   pub is : push (encodeOf (s .flags .encode) meaning) (setMarker none s) ≡ u
 

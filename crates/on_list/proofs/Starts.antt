@@ -26,33 +26,7 @@ use Rattle.context.specs.Rel.{Sees, Keeps}
 use Rattle.context.proofs.Plain.{never}
 use Rattle.context.proofs.Laws.{withBuffers, rel-buffers, pushed}
 use Rattle.context.proofs.Commands.{first-goes}
-
--- a test that is passed
-passed : {A : Type 0} (t : Bool) {a b : A} → (if t then go a else stop) ≡ go b → (t ≡ true) × (a ≡ b)
-passed true p = (refl, cc)
-passed false p = never p
-
-record Sliced (text : List ℕ) (e : Event) (b : List ℕ) : Type 0 where
-  pub ordered : e .from .0 ≤ e .to .0
-  pub inside : e .to .0 ≤ length text
-  pub bytes : b ≡ take (e .to .0 - e .from .0) (drop (e .from .0) text)
-
-sliced : (text : List ℕ) (e : Event) (b : List ℕ) → strOf text (spanOf e) ≡ go b → Sliced text e b
-unfolding strOf sliceOf asStr
-sliced text e b p =
-    let f = first-goes (sliceOf text (spanOf e)) asStr b p in
-    let from = e .from .0 in
-    let to = e .to .0 in
-    let q = passed (leb from to && leb to (length text)) (f .1) in
-    let r = passed (isUtf8 (f .0)) (f .2) in
-    record {
-      ordered = leb-true from to (and-left (leb from to) (leb to (length text)) (q .0));
-      inside = leb-true to (length text) (and-right (leb from to) (leb to (length text)) (q .0));
-      bytes = sym (r .1) ∙ sym (q .1);
-    }
-
-own-slice : (text : List ℕ) (e : Event) (t : Turn) (b : List ℕ) → Sees text e t → ownStr t ≡ go b → Sliced text e b
-own-slice text e t b v p = sliced text e b (rw (v .text-is, v .event-is) at p)
+use Rattle.context.proofs.Slices.{Sliced, own-slice}
 
 module _ (text : List ℕ) (e : Event) where
   record Started (s u : State) : Type 0 where
