@@ -1,3 +1,4 @@
-pub mod Lacking
-pub mod Passing
-pub mod Finish
+pub mod Section
+pub mod Start
+pub mod End
+pub mod Both

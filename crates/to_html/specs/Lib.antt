@@ -1,2 +1,2 @@
-pub mod Lacking
-pub mod Passing
+pub mod Renders
+pub mod Private

@@ -56,7 +56,7 @@ abbrev pub NoneOf : List ℕ → ℕ → Type 0
 NoneOf [] n = Unit
 NoneOf (k ∷ ks) n = NoneOf ks n × (n ≡ k → ⊥)
 
-no-arm : (arms : List ℕ) (n : ℕ) → NoneOf arms n → oneOf arms n ≡ false
+pub no-arm : (arms : List ℕ) (n : ℕ) → NoneOf arms n → oneOf arms n ≡ false
 no-arm [] n h = refl
 no-arm (k ∷ ks) n h = rw (ne-eqb n k (h .1), no-arm ks n (h .0))
 
@@ -67,17 +67,17 @@ unmetBy x lo arms n = if ltb n lo || (oneOf arms n || not (isQuiet (handlerAt x 
 asked : (a b q : Bool) (d : Command) → a ≡ false → b ≡ false → q ≡ true → (if a || (b || not q) then nothing else d) ≡ nothing → d ≡ nothing
 asked a b q d x y z p = rw (x, y, z) at p
 
--- of each number below n
-abbrev pub below : ℕ → (ℕ → Command) → List Command
+-- of each number below n: where two lists of these are the same, a computed test, each is
+abbrev pub below : {A : Type 0} → ℕ → (ℕ → A) → List A
 below zero f = []
 below (suc n) f = f n ∷ below n f
 
-each : (f : ℕ → Command) (n : ℕ) → below n f ≡ below n (λ k. nothing) → (k : ℕ) → k < n → f k ≡ nothing
-each f zero p k h = absurd (not-suc-le-zero h)
-each f (suc n) p k h =
-    let first : f n ≡ nothing = cc in
-    let others : below n f ≡ below n (λ k. nothing) = cc in
-    ⊎-elim (λ e. ap f e ∙ first) (λ l. each f n others k l) (eq-or-lt-of-le (le-of-suc-le-suc h))
+pub each : {A : Type 0} (f g : ℕ → A) (n : ℕ) → below n f ≡ below n g → (k : ℕ) → k < n → f k ≡ g k
+each f g zero p k h = absurd (not-suc-le-zero h)
+each f g (suc n) p k h =
+    let first : f n ≡ g n = cc in
+    let others : below n f ≡ below n g = cc in
+    ⊎-elim (λ e. ap f e ∙ first ∙ sym (ap g e)) (λ l. each f g n others k l) (eq-or-lt-of-le (le-of-suc-le-suc h))
 
 pub rest : {x : Bool} {lo hi : ℕ} {View : Turn → Type 0} {e : Event} {c : Context} {captures starts out : List ℕ} (arms : List ℕ) → below (suc hi) (unmetBy x lo arms) ≡ below (suc hi) (λ k. nothing) → NoneOf arms (e .name) → Among x lo hi View e c captures starts out c captures starts out
 rest {x} {lo} {hi} {e = e} arms p none =
@@ -87,7 +87,7 @@ rest {x} {lo} {hi} {e = e} arms p none =
           let is : commandFor e ≡ handlerAt x n = command-is e x n h refl in
           record {
             dispatches = λ quiet.
-                let z = asked (ltb n lo) (oneOf arms n) (isQuiet (handlerAt x n)) (handlerAt x n) (le-ltb n lo a) (no-arm arms n none) (ap isQuiet (sym is) ∙ quiet) (each (unmetBy x lo arms) (suc hi) p n (suc-le-suc b)) in
+                let z = asked (ltb n lo) (oneOf arms n) (isQuiet (handlerAt x n)) (handlerAt x n) (le-ltb n lo a) (no-arm arms n none) (ap isQuiet (sym is) ∙ quiet) (each (unmetBy x lo arms) (λ k. nothing) (suc hi) p n (suc-le-suc b)) in
                 dispatched (is ∙ z) (from-keeps idle) .dispatches quiet;
           };
     }

@@ -16,3 +16,4 @@ numberOr (some k) = k
 
 pub record Lacks (b : Whole) (room r : ℕ) : Type 0 where
   pub lacks : (text : List ℕ) (w : World) (s : State) → length (w .out) ≡ room → Built text b w s → r ≡ numberOr (over room s)
+  pub kinds : (r ≡ 0 → ⊥) → (r ≡ 8 → ⊥) → r ≡ 9

@@ -19,8 +19,8 @@ use Rattle.machine.specs.Totals.{captured, held, kept, over}
 use Rattle.machine.specs.Run.{Answer, page, refused, finish, sectionEnd, runFrom}
 use Rattle.clean.specs.Section.{Appends}
 use Rattle.buffers.proofs.Laws.{push-nil}
-use Rattle.to_html.specs.Passing.{run}
-use Rattle.to_html.proofs.Passing.{Within, none-over}
+use Rattle.passes.specs.Passing.{run}
+use Rattle.passes.proofs.Passing.{Within, none-over}
 
 module _ (events : List ℕ) (room : ℕ) (s : State) where
   pub no-calls : s .kept .calls ≡ [] → run events room [] s ≡ page (s .page)

@@ -22,14 +22,15 @@ use Rattle.machine.specs.Run.{Answer, refused, runFrom}
 use Rattle.bounded.specs.Within.{within, Goes, ends, turns}
 use Rattle.clean.proofs.Within.{within-exec}
 use Rattle.whole.specs.declared.Whole.{Whole}
-use Rattle.whole.specs.Whole.{World, Built, Roomy}
+use Rattle.whole.specs.Whole.{World, Built}
 use Rattle.turns.specs.Turns.{TurnAt, commandFor}
+use Rattle.turns.specs.Loud.{Spare, Turned}
 use Rattle.turns.specs.Passing.{turnsLeft, isHere, staysInside, turnAt}
 use Rattle.turns.proofs.Turns.{command-of}
 use Rattle.turns.proofs.Passing.{left-end, left-next, turn-at, run-over, run-on}
-use Rattle.to_html.specs.Lacking.{numberOr, Lacks}
-use Rattle.to_html.specs.Passing.{Turned, run, Stands, Reaches, Refuses}
-use Rattle.to_html.proofs.Lacking.{Places, placed}
+use Rattle.passes.specs.Lacking.{numberOr, Lacks}
+use Rattle.passes.specs.Passing.{run, Stands, Reaches, Refuses, wanted}
+use Rattle.passes.proofs.Lacking.{Places, placed}
 
 -- ---- room
 
@@ -79,15 +80,17 @@ module _ (room : ℕ) (s : State) where
       let q = none-judged (ltb 16384 (captured s)) (ltb 16384 (held s)) (ltb 16384 (kept s)) (ltb room (length (s .page))) p in
       record { captures = ltb-false 16384 (captured s) (q .0); held-is = ltb-false 16384 (held s) (q .1); kept-is = ltb-false 16384 (kept s) (q .2); page = ltb-false room (length (s .page)) (q .3) }
 
-roomy : {text : List ℕ} {room : ℕ} {b : Whole} {w : World} (s : State) → Stands text room b w s → Roomy b
-roomy {text} {room} {b} {w} s x =
+spare : {text : List ℕ} {room : ℕ} {b : Whole} {w : World} (s : State) → Stands text room b w s → Spare b
+spare {text} {room} {b} {w} s x =
     let p = placed text b w s room (x .long) (x .built) in
     let q = none-over room s (x .roomy) in
     let a = p .captures in
     let c = q .captures in
     let d = p .held-is in
     let e = q .held-is in
-    record { captures = omega arith; held = omega arith }
+    let f = p .kept-is in
+    let g = q .kept-is in
+    record { roomy = record { captures = omega arith; held = omega arith }; kept = omega arith }
 
 -- ---- one turn
 
@@ -104,16 +107,12 @@ module _ {text events : List ℕ} {o : Options} {room i : ℕ} {r q : Whole} {w�
       let f = goes-first g in
       let at = turn-at text events o i h in
       let c = command-of t (eventAt events i) (at .event-is) in
-      (f .0, k .turned .handles t u (f .0) at (roomy u y) (y .built) (rw c at (f .1)), within-exec (commandOf t) t u (f .0) (f .1), f .2)
+      (f .0, k .turned .handles t u (f .0) at (spare u y) (y .built) (rw c at (f .1)), within-exec (commandOf t) t u (f .0) (f .1), f .2)
 
 -- ---- a pass
 
 pub starts-so : {text events : List ℕ} {room : ℕ} {ts : List Turn} {b : Whole} {w : World} → Reaches text events room ts ts b w b w
 starts-so = record { reaches = λ rest s v y g. (s, y, g, refl) }
-
--- whether an event is the pass's
-abbrev pub wanted : (definitions inside : Bool) → Event → Bool
-wanted definitions inside e = if definitions then isHere inside e else not (isHere inside e)
 
 module _ (definitions : Bool) {text events : List ℕ} (o : Options) {room : ℕ} {before : List Turn} {b : Whole} {w : World} (inside : Bool) (i : ℕ) {r : Whole} {w′ : World} (h : i < length events / 20)
     (x : Reaches text events room before (turnsLeft definitions text events o inside i) b w r w′) where

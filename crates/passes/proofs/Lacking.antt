@@ -16,7 +16,7 @@ use Rattle.machine.specs.Totals.{sizes, captured, held, kept, over}
 use Rattle.whole.specs.declared.Whole.{Whole}
 use Rattle.whole.specs.Whole.{World, Built}
 use Rattle.whole.proofs.Parts.{front-long}
-use Rattle.to_html.specs.Lacking.{numberOr, Lacks}
+use Rattle.passes.specs.Lacking.{numberOr, Lacks}
 
 flat-long : (cs : List (List ℕ)) → length (flat cs) ≡ sizes cs
 flat-long [] = refl
@@ -39,28 +39,28 @@ placed text b w s room h y =
     record { captures = omega arith; held-is = y .links .end; kept-is = y .kept .end; page = omega arith }
 
 module _ {b : Whole} {room : ℕ} where
-  lacking : (r : ℕ) → ((s : State) → Places b room s → r ≡ numberOr (over room s)) → Lacks b room r
-  lacking r k = record { lacks = λ text w s h y. k s (placed text b w s room h y) }
+  lacking : (r : ℕ) → ((r ≡ 0 → ⊥) → (r ≡ 8 → ⊥) → r ≡ 9) → ((s : State) → Places b room s → r ≡ numberOr (over room s)) → Lacks b room r
+  lacking r n k = record { lacks = λ text w s h y. k s (placed text b w s room h y); kinds = n }
 
   pub captures-lack : 16384 < b .context .buffers .end → Lacks b room 8
   unfolding over
-  captures-lack h = lacking 8 (λ s p. (let e = p .captures in rw (lt-ltb 16384 (captured s) (omega arith))))
+  captures-lack h = lacking 8 (λ y z. absurd (z refl)) (λ s p. (let e = p .captures in rw (lt-ltb 16384 (captured s) (omega arith))))
 
   pub held-lacks : b .context .buffers .end ≤ 16384 → 16384 < b .links .end → Lacks b room 8
   unfolding over
-  held-lacks g h = lacking 8 (λ s p. (let d = p .captures in let e = p .held-is in rw (le-ltb 16384 (captured s) (omega arith), lt-ltb 16384 (held s) (omega arith))))
+  held-lacks g h = lacking 8 (λ y z. absurd (z refl)) (λ s p. (let d = p .captures in let e = p .held-is in rw (le-ltb 16384 (captured s) (omega arith), lt-ltb 16384 (held s) (omega arith))))
 
   pub kept-lacks : b .context .buffers .end ≤ 16384 → b .links .end ≤ 16384 → 16384 < b .kept .end → Lacks b room 8
   unfolding over
-  kept-lacks f g h = lacking 8 (λ s p. (let c = p .captures in let d = p .held-is in let e = p .kept-is in rw (le-ltb 16384 (captured s) (omega arith), le-ltb 16384 (held s) (omega arith), lt-ltb 16384 (kept s) (omega arith))))
+  kept-lacks f g h = lacking 8 (λ y z. absurd (z refl)) (λ s p. (let c = p .captures in let d = p .held-is in let e = p .kept-is in rw (le-ltb 16384 (captured s) (omega arith), le-ltb 16384 (held s) (omega arith), lt-ltb 16384 (kept s) (omega arith))))
 
   module _ (f : b .context .buffers .end ≤ 16384) (g : b .links .end ≤ 16384) (h : b .kept .end ≤ 16384) where
     pub page-lacks : room < b .context .buffers .page → Lacks b room 9
     unfolding over
-    page-lacks k = lacking 9 (λ s p. (let c = p .captures in let d = p .held-is in let e = p .kept-is in let q = p .page in
+    page-lacks k = lacking 9 (λ y z. refl) (λ s p. (let c = p .captures in let d = p .held-is in let e = p .kept-is in let q = p .page in
         rw (le-ltb 16384 (captured s) (omega arith), le-ltb 16384 (held s) (omega arith), le-ltb 16384 (kept s) (omega arith), lt-ltb room (length (s .page)) (omega arith))))
 
     pub none-lacks : b .context .buffers .page ≤ room → Lacks b room 0
     unfolding over
-    none-lacks k = lacking 0 (λ s p. (let c = p .captures in let d = p .held-is in let e = p .kept-is in let q = p .page in
+    none-lacks k = lacking 0 (λ y z. absurd (y refl)) (λ s p. (let c = p .captures in let d = p .held-is in let e = p .kept-is in let q = p .page in
         rw (le-ltb 16384 (captured s) (omega arith), le-ltb 16384 (held s) (omega arith), le-ltb 16384 (kept s) (omega arith), le-ltb room (length (s .page)) (omega arith))))

@@ -1,10 +1,11 @@
 -- What a pass does: it follows the machine's run over its turns, up to the first after which something lacks room. Assumes nothing.
 use mathlib.Core.Path.{_≡_}
-use mathlib.Core.Bool.{Bool, false}
-use mathlib.Core.List.{List, _++_}
+use mathlib.Core.Bool.{Bool, false, not}
+use mathlib.Core.List.{List, [], _++_}
 use mathlib.Core.Option.{none}
 use Prim.Native.Nat.{ℕ, _/_}
 use lib.ListN.{length}
+use Rattle.lent.specs.Bytes.{if_then_else_}
 use Rattle.machine.specs.declared.Options.{Options}
 use Rattle.machine.specs.State.{State}
 use Rattle.machine.specs.Turn.{Turn}
@@ -12,14 +13,11 @@ use Rattle.machine.specs.Totals.{over}
 use Rattle.machine.specs.Run.{Answer, refused, runFrom}
 use Rattle.bounded.specs.Within.{Goes}
 use Rattle.whole.specs.declared.Whole.{Whole}
-use Rattle.whole.specs.Whole.{World, Built, Handles, Roomy}
-use Rattle.turns.specs.Turns.{TurnAt, commandFor}
-use Rattle.turns.specs.Passing.{turnsLeft}
-use Rattle.event.specs.Event.{eventAt}
-
--- one turn
-pub record Turned (text events : List ℕ) (o : Options) (i : ℕ) (b : Whole) (w : World) (r : Whole) (w′ : World) : Type 0 where
-  pub turned : Handles text Roomy (TurnAt text events o i) (commandFor (eventAt events i)) b w r w′
+use Rattle.whole.specs.Whole.{World, Built}
+use Rattle.turns.specs.Passing.{isHere, turnsLeft}
+use Rattle.event.specs.declared.Event.{Event}
+use Rattle.passes.specs.declared.Passed.{Passed}
+use Rattle.passes.specs.declared.Passed.the-variants.{On, Over}
 
 -- the run over turns, from a state
 abbrev pub run : (events : List ℕ) → (room : ℕ) → List Turn → State → Answer
@@ -39,3 +37,21 @@ pub record Reaches (text events : List ℕ) (room : ℕ) (before after : List Tu
 -- or it is refused
 pub record Refuses (text events : List ℕ) (room : ℕ) (before : List Turn) (b : Whole) (w : World) (number place : ℕ) : Type 0 where
   pub refuses : (rest : List Turn) (s v : State) → Stands text room b w s → Goes (before ++ rest) s v → run events room (before ++ rest) s ≡ refused number place
+
+-- ---- a pass
+
+-- whether an event is the pass's
+abbrev pub wanted : (definitions inside : Bool) → Event → Bool
+wanted definitions inside e = if definitions then isHere inside e else not (isHere inside e)
+
+-- refused by this number, which is 8 or 9
+pub record IsOver (text events : List ℕ) (room : ℕ) (before : List Turn) (b : Whole) (w : World) (number place : ℕ) : Type 0 where
+  pub refused-so : Refuses text events room before b w number place
+  pub kinds : (number ≡ 8 → ⊥) → number ≡ 9
+
+abbrev pub Ends : (text events : List ℕ) → (room : ℕ) → (before : List Turn) → Whole → World → Passed → World → Type 0
+Ends text events room before b w (On r) w′ = Reaches text events room before [] b w r w′
+Ends text events room before b w (Over number place) w′ = IsOver text events room before b w number (place .0)
+
+pub record Passes (definitions : Bool) (text events : List ℕ) (o : Options) (b : Whole) (w : World) (r : Passed) (w′ : World) : Type 0 where
+  pub passes : Ends text events (length (w .out)) (turnsLeft definitions text events o false 0) b w r w′

@@ -1,8 +1,8 @@
 -- In the order of the numbers.
-use Rattle.to_html.proofs.lack.Statement.{statement}
-use Rattle.to_html.proofs.lack.Tie as tie
+use Rattle.passes.proofs.lack.Statement.{statement}
+use Rattle.passes.proofs.lack.Tie as tie
 use borrow.Author.Needs.{needs}
-use Rattle.to_html.proofs.Lacking.{captures-lack, held-lacks, kept-lacks, page-lacks, none-lacks}
+use Rattle.passes.proofs.Lacking.{captures-lack, held-lacks, kept-lacks, page-lacks, none-lacks}
 
 returns : tie.Need-returns
 returns c = search captures-lack
