@@ -2,6 +2,8 @@
 ghost use Prim.Native.Nat.{_+_, _≤_, _<_};
 ghost use mathlib.Core.Path.{_≡_};
 ghost use lib.ListN.{length};
+use machine::Ending;
+use machine::Options;
 
 // The most that a request may bring or ask for.
 const MOST_TEXT: usize = 262144;
@@ -16,6 +18,7 @@ const MOST_WORK: usize = 131072;
 struct Request {
     op: u8,
     options: u8,
+    ending: u8,
     text: usize,
     events: usize,
     room: usize,
@@ -44,7 +47,7 @@ fn serve_one(input: &mut [u8], answer: &mut [u8], work: &mut [u8]) -> bool {
         return false;
     }
     let request = read_request(&header);
-    if (request.op < 1) | (8 < request.op) | (request.op == 7) {
+    if (request.op < 1) | (8 < request.op) {
         return false;
     }
     answer_request(request, input, answer, work)
@@ -67,6 +70,7 @@ fn read_request(header: &[u8; 32]) -> Request {
     Request {
         op: header[0],
         options: header[1],
+        ending: header[2],
         text: u32_at(header, 4),
         events: u32_at(header, 8),
         room: u32_at(header, 12),
@@ -101,22 +105,16 @@ fn answer_request(r: Request, input: &mut [u8], answer: &mut [u8], work: &mut [u
     if work.len() < second {
         return false;
     }
-    if r.op == 6 {
-        return exchange_check(r, &mut input[0..text + events], &mut answer[0..24 + room]);
-    }
-    if r.op == 8 {
-        return exchange_bundle(
-            r,
-            &mut input[0..text + events],
-            &mut answer[0..24 + room],
-            &mut work[0..second],
-        );
-    }
-    exchange(r, &mut input[0..text + events], &mut answer[0..24 + room])
+    exchange(
+        r,
+        &mut input[0..text + events],
+        &mut answer[0..24 + room],
+        &mut work[0..second],
+    )
 }
 
 // Reads the text and the events, makes the call, and writes the answer with the whole buffer that was lent.
-fn exchange(r: Request, input: &mut [u8], answer: &mut [u8]) -> bool {
+fn exchange(r: Request, input: &mut [u8], answer: &mut [u8], work: &mut [u8]) -> bool {
     if io::read_full(0, input) != input.len() {
         return false;
     }
@@ -127,46 +125,90 @@ fn exchange(r: Request, input: &mut [u8], answer: &mut [u8]) -> bool {
     if answer.len() < 24 {
         return false;
     }
-    let written = call(r, &input[0..text], &mut answer[24..]);
-    put_header(&mut answer[0..24], written, r.room);
+    respond(r, text, input, answer, work)
+}
+
+fn respond(r: Request, n: usize, input: &[u8], answer: &mut [u8], work: &mut [u8]) -> bool
+    requires { ⌜ (n ≤ length (now input)) × (24 ≤ length (now answer)) ⌝ }
+{
+    let op = r.op;
+    match op {
+        6 => check(&input[0..n], &input[n..], answer),
+        7 => build(r, &input[0..n], &input[n..], answer, work),
+        8 => read(r, &input[0..n], answer, work),
+        _ => write(r, &input[0..n], answer),
+    }
+}
+
+// The calls that write a text.
+fn write(r: Request, text: &[u8], answer: &mut [u8]) -> bool
+    requires { ⌜ 24 ≤ length (now answer) ⌝ }
+{
+    let written = call(r, text, &mut answer[24..]);
+    put_head(&mut answer[0..24], written_head(written, r.room));
     io::write_all(1, answer)
 }
 
-// The same for the checker, which is lent no buffer.
-fn exchange_check(r: Request, input: &mut [u8], answer: &mut [u8]) -> bool {
-    if io::read_full(0, input) != input.len() {
-        return false;
-    }
-    let text = r.text;
-    if input.len() < text {
-        return false;
-    }
-    if answer.len() < 24 {
-        return false;
-    }
-    let checked = page::check(&input[0..text], &input[text..]);
-    put_check_header(&mut answer[0..24], checked);
+// The checker, which is lent no buffer.
+fn check(text: &[u8], events: &[u8], answer: &mut [u8]) -> bool
+    requires { ⌜ 24 ≤ length (now answer) ⌝ }
+{
+    let checked = page::check(text, events);
+    put_head(&mut answer[0..24], checked_head(checked));
     io::write_all(1, &answer[0..24])
 }
 
-// The same for the reader, which is lent two buffers: the second one's bytes follow the first's.
-fn exchange_bundle(r: Request, input: &mut [u8], answer: &mut [u8], events: &mut [u8]) -> bool {
-    if io::read_full(0, input) != input.len() {
-        return false;
-    }
-    let text = r.text;
-    if input.len() < text {
-        return false;
-    }
-    if answer.len() < 24 {
-        return false;
-    }
-    let read = call_reader(&input[0..text], &mut answer[24..], events);
-    put_reader_header(&mut answer[0..24], read, r.room, r.work);
+// The build, which is lent work bytes too.
+fn build(r: Request, text: &[u8], events: &[u8], answer: &mut [u8], work: &mut [u8]) -> bool
+    requires { ⌜ 24 ≤ length (now answer) ⌝ }
+{
+    let built = call_build(r, text, events, &mut answer[24..], work);
+    let head = built_head(built, r.room, state_of(work));
+    put_head(&mut answer[0..24], head);
+    io::write_all(1, answer)
+}
+
+// The reader, which is lent two buffers: the second one's bytes follow the first's.
+fn read(r: Request, bundle: &[u8], answer: &mut [u8], events: &mut [u8]) -> bool
+    requires { ⌜ 24 ≤ length (now answer) ⌝ }
+{
+    let answered = call_reader(bundle, &mut answer[24..], events);
+    put_head(&mut answer[0..24], read_head(answered, r.room, r.work));
     if !io::write_all(1, answer) {
         return false;
     }
     io::write_all(1, events)
+}
+
+fn call_build(
+    r: Request,
+    text: &[u8],
+    events: &[u8],
+    out: &mut [u8],
+    work: &mut [u8],
+) -> build::Built {
+    fill(out, 0xA5);
+    fill(work, 0xA5);
+    page::build(text, events, options_of(r), out, work)
+}
+
+fn options_of(r: Request) -> Options {
+    let bits = r.options;
+    let ending = ending_of(r.ending);
+    Options {
+        allow_dangerous_html: bits % 2 == 1,
+        allow_dangerous_protocol: bits / 2 % 2 == 1,
+        allow_any_img_src: bits / 4 % 2 == 1,
+        ending,
+    }
+}
+
+fn ending_of(ending: u8) -> Ending {
+    match ending {
+        1 => Ending::Cr,
+        2 => Ending::CrLf,
+        _ => Ending::Lf,
+    }
 }
 
 fn call_reader(bundle: &[u8], text: &mut [u8], events: &mut [u8]) -> bundle::Answer {
@@ -187,28 +229,67 @@ fn call(r: Request, text: &[u8], out: &mut [u8]) -> page::Written {
     }
 }
 
-// The answer's first 24 bytes: number, value, second, edition, room, work.
-fn put_header(head: &mut [u8], w: page::Written, room: usize) {
-    lent::clear(head, 0);
-    put_u32(head, 0, page::number(w) as usize);
-    put_u32(head, 4, page::value(w));
-    put_u32(head, 16, room);
+// The answer's first 24 bytes.
+struct Head {
+    number: u32,
+    value: usize,
+    second: usize,
+    edition: u32,
+    room: usize,
+    work: usize,
 }
 
-fn put_check_header(head: &mut [u8], c: checker::Checked) {
-    lent::clear(head, 0);
-    put_u32(head, 0, checker::number(c) as usize);
-    put_u32(head, 4, checker::place(c));
+fn put_head(out: &mut [u8], h: Head) {
+    put_u32(out, 0, h.number as usize);
+    put_u32(out, 4, h.value);
+    put_u32(out, 8, h.second);
+    put_u32(out, 12, h.edition as usize);
+    put_u32(out, 16, h.room);
+    put_u32(out, 20, h.work);
 }
 
-fn put_reader_header(head: &mut [u8], a: bundle::Answer, room: usize, work: usize) {
-    lent::clear(head, 0);
-    put_u32(head, 0, bundle::number(a) as usize);
-    put_u32(head, 4, bundle::value(a));
-    put_u32(head, 8, bundle::events_length(a));
-    put_u32(head, 12, bundle::edition(a) as usize);
-    put_u32(head, 16, room);
-    put_u32(head, 20, work);
+fn written_head(w: page::Written, room: usize) -> Head {
+    Head {
+        number: page::number(w),
+        value: page::value(w),
+        second: 0,
+        edition: 0,
+        room,
+        work: 0,
+    }
+}
+
+fn checked_head(c: checker::Checked) -> Head {
+    Head {
+        number: checker::number(c),
+        value: checker::place(c),
+        second: 0,
+        edition: 0,
+        room: 0,
+        work: 0,
+    }
+}
+
+fn built_head(b: build::Built, room: usize, work: usize) -> Head {
+    Head {
+        number: build::number(b),
+        value: build::value(b),
+        second: 0,
+        edition: 0,
+        room,
+        work,
+    }
+}
+
+fn read_head(a: bundle::Answer, room: usize, work: usize) -> Head {
+    Head {
+        number: bundle::number(a),
+        value: bundle::value(a),
+        second: bundle::events_length(a),
+        edition: bundle::edition(a),
+        room,
+        work,
+    }
 }
 
 // Four bytes, little endian.
@@ -226,4 +307,16 @@ fn fill(s: &mut [u8], b: u8) {
         s[i] = b;
         i += 1;
     }
+}
+
+// 1 where every byte is zero, else 2.
+fn state_of(s: &[u8]) -> usize {
+    let mut i = 0;
+    while i < s.len() {
+        if s[i] != 0 {
+            return 2;
+        }
+        i += 1;
+    }
+    1
 }

@@ -7,6 +7,7 @@ ghost use Rattle.sanitize_uri.specs.Protocols.{linkSchemes, imageSchemes, sanit
 ghost use Rattle.normalize_identifier.specs.Identity.{identityOf};
 ghost use Rattle.bundle.specs.Read.{HasRead};
 ghost use Rattle.checker.specs.Checked.{checkOf};
+ghost use Rattle.build.specs.Build.{Builds};
 ghost use Rattle.page.specs.Written.{numberOf, valueOf, resultOf, takenOf, Ended, Refuses, Wrote};
 
 // The answer of a call that writes a text: its length, or why nothing was written.
@@ -72,6 +73,19 @@ pub fn check(text: &[u8], events: &[u8]) -> checker::Checked
     ensures { λ r. ⌜ r ≡ checkOf (now (text .entry)) (now (events .entry)) ⌝ }
 {
     checker::check(text, events)
+}
+
+// The page of a note with zeros behind it; or a refusal, with nothing in the output. Every work byte is zero afterwards.
+pub fn build(
+    text: &[u8],
+    events: &[u8],
+    options: machine::Options,
+    out: &mut [u8],
+    work: &mut [u8],
+) -> build::Built
+    ensures { λ r. ⌜ Builds (now (text .entry)) (now (events .entry)) options (now (out .entry)) (now (work .entry)) (now (out .exit)) (now (work .exit)) r ⌝ }
+{
+    build::build(text, events, options, out, work)
 }
 
 // Reads the text and the events of a note bundle.
