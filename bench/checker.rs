@@ -1,4 +1,4 @@
-// The checker beside the crate's `compile`, on the events of the same notes; and its worst case for refusal 7.
+// The checker and the build beside the crate's `compile`, on the events of the same notes; and the worst case for refusal 7.
 use crate::export::export;
 use crate::record::{written, Record};
 use crate::{measure, Side};
@@ -9,11 +9,18 @@ use std::time::Instant;
 
 extern "C" {
     fn page_check(text: *const u8, n: usize, events: *const u8, m: usize) -> u32;
+    fn page_build(text: *const u8, n: usize, events: *const u8, m: usize, out: *mut u8, room: usize, work: *mut u8, w: usize) -> u64;
 }
 
 /// 01's number for a list: 0 is yes.
 fn check(text: &[u8], events: &[u8]) -> u32 {
     unsafe { page_check(text.as_ptr(), text.len(), events.as_ptr(), events.len()) }
+}
+
+/// The page's length in a buffer that is lent, or 2^63 and the refusal's number.
+fn build(text: &[u8], events: &[u8], out: &mut [u8], work: &mut [u8]) -> u64 {
+    let (t, e) = (text.as_ptr(), events.as_ptr());
+    unsafe { page_build(t, text.len(), e, events.len(), out.as_mut_ptr(), out.len(), work.as_mut_ptr(), work.len()) }
 }
 
 /// A block of each kind of note, to be repeated.
@@ -48,27 +55,46 @@ fn note(block: &str, length: usize) -> (String, Vec<Record>) {
     }
 }
 
+/// Least times in microseconds on one note: the checker, the public call (which checks too), and the crate's `compile`.
+fn row(kind: &str, block: &str, length: usize) {
+    let (note, records) = note(block, length);
+    let events = written(&records);
+    let parsed = parser::parse(&note, &options()).expect("only MDX has errors").0;
+    let page = compile(&parsed, note.as_bytes(), &CompileOptions::default());
+    let (mut out, mut work) = (vec![0; page.len()], vec![0; 49_152]);
+    assert_eq!(build(note.as_bytes(), &events, &mut out, &mut work), page.len() as u64, "{kind}: the length");
+    assert_eq!(out, page.as_bytes(), "{kind}: the page");
+    let (bytes, list) = (note.clone().into_bytes(), events.clone());
+    let mut checks: Side = Box::new(move || assert_eq!(check(black_box(&bytes), black_box(&list)), 0));
+    let (bytes, list) = (note.clone().into_bytes(), events.clone());
+    let mut builds: Side = Box::new(move || {
+        black_box(build(black_box(&bytes), black_box(&list), black_box(&mut out), black_box(&mut work)));
+    });
+    let again = note.clone().into_bytes();
+    let mut theirs: Side = Box::new(move || {
+        black_box(compile(black_box(&parsed), black_box(&again), &CompileOptions::default()));
+    });
+    let (check_time, _, _) = measure(&mut checks, &mut theirs);
+    let (build_time, their_time, _) = measure(&mut builds, &mut theirs);
+    println!(
+        "{kind:<10} {:>6}  {:>6}  {:>8.1}  {:>8.1}  {:>8.1}  {:>10.1}  {:>7.3}  {:>7.3}  {:>8.3}",
+        note.len(),
+        records.len(),
+        check_time / 1_000.0,
+        (build_time - check_time) / 1_000.0,
+        build_time / 1_000.0,
+        their_time / 1_000.0,
+        check_time / their_time,
+        (build_time - check_time) / their_time,
+        build_time / their_time
+    );
+}
+
 pub fn print_rows() {
-    println!("checker        note            bytes  events  ours us  compile us  ratio");
+    println!("note        bytes  events  check us  build us   both us  compile us    check    build      both");
     for (kind, block) in KINDS {
-        for length in [2_048, 16_384] {
-            let (note, records) = note(block, length);
-            let events = written(&records);
-            let parsed = parser::parse(&note, &options()).expect("only MDX has errors").0;
-            let (bytes, again) = (note.clone().into_bytes(), note.clone().into_bytes());
-            let mut ours: Side = Box::new(move || assert_eq!(check(black_box(&bytes), black_box(&events)), 0));
-            let mut theirs: Side = Box::new(move || {
-                black_box(compile(black_box(&parsed), black_box(&again), &CompileOptions::default()));
-            });
-            let (our_time, their_time, _) = measure(&mut ours, &mut theirs);
-            println!(
-                "checker        {kind:<14} {:>6}  {:>6}  {:>7.1}  {:>10.1}  {:>5.3}",
-                note.len(),
-                records.len(),
-                our_time / 1_000.0,
-                their_time / 1_000.0,
-                our_time / their_time
-            );
+        for length in [2_048, 16_384, 64_000] {
+            row(kind, block, length);
         }
     }
     print_worst();

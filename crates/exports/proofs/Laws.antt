@@ -1,7 +1,7 @@
 -- From an answer to its number. Assumes nothing.
 use mathlib.Core.Path.{_≡_, ap, _∙_}
 use mathlib.Core.List.{List}
-use Prim.Native.Nat.{ℕ}
+use Prim.Native.Nat.{ℕ, _+_, _^_}
 use lib.ListN.{length}
 use Rattle.bundle.specs.declared.Answer.{Answer}
 use Rattle.bundle.specs.Read.{numberOf, HasRead}
@@ -10,7 +10,11 @@ use Rattle.checker.specs.Checked as Checked
 use Rattle.checker.specs.Checked.{checkOf}
 use Rattle.page.specs.declared.Written.{Written}
 use Rattle.page.specs.Written.{bytesOf, Wrote}
-use Rattle.exports.specs.Packed.{packed, HasNumber, Packs}
+use Rattle.machine.specs.declared.Options.{Options}
+use Rattle.build.specs.declared.Built.{Built}
+use Rattle.build.specs.declared.Built.the-variants.{Refused}
+use Rattle.build.specs.Build.{Builds}
+use Rattle.exports.specs.Packed.{packed, HasNumber, Packs, plain, packedBuilt, PacksBuilt}
 
 pub packs : {text result d e : List ℕ} {w : Written} {r : ℕ} → Wrote text result d e w → r ≡ packed w → Packs text result d e r
 packs {result = result} {d = d} p q =
@@ -21,3 +25,9 @@ numbers p q = record { answer = q ∙ ap numberOf (p .answer); text = p .text; e
 
 pub checks : (text events : List ℕ) {c : Checked} {r : ℕ} → c ≡ checkOf text events → r ≡ Checked.numberOf c → r ≡ Checked.numberOf (checkOf text events)
 checks text events p q = q ∙ ap Checked.numberOf p
+
+pub packs-built : {text events out work out′ work′ : List ℕ} {o : Options} {b : Built} {r : ℕ} → o ≡ plain → Builds text events o out work out′ work′ b → r ≡ packedBuilt b → PacksBuilt text events out work out′ work′ r
+packs-built {b = b} e k q = record { answer = b; builds = rw (← e) k; packs = q }
+
+pub packs-refused : {b : Built} {c : Checked} {n r : ℕ} → b ≡ Refused c → n ≡ Checked.numberOf c → r ≡ 2 ^ 63 + n → r ≡ packedBuilt b
+packs-refused p q h = rw (p, h, q)

@@ -1,5 +1,6 @@
 -- An answer as one number, for callers that know no enums: the length, or 2^63 and the refusal's number. A buffer is shorter than 2^63. Assumes nothing.
 use mathlib.Core.Path.{_≡_}
+use mathlib.Core.Bool.{false}
 use mathlib.Core.List.{List}
 use Prim.Native.Nat.{ℕ, _+_, _^_}
 use lib.ListN.{length}
@@ -7,6 +8,12 @@ use Rattle.bundle.specs.Read
 use Rattle.page.specs.declared.Written.{Written}
 use Rattle.page.specs.declared.Written.the-variants.{Length, TooLong, NotUtf8, NoRoom}
 use Rattle.page.specs.Written.{numberOf, answerOf, bytesOf}
+use Rattle.checker.specs.Checked as Checked
+use Rattle.machine.specs.declared.Options.{Options}
+use Rattle.machine.specs.declared.Ending.the-variants.{Lf}
+use Rattle.build.specs.declared.Built.{Built}
+use Rattle.build.specs.declared.Built.the-variants.{Page, Refused, WorkFull, PageFull}
+use Rattle.build.specs.Build.{Builds}
 
 abbrev pub packed : Written → ℕ
 packed (Length n) = n
@@ -24,3 +31,19 @@ pub record HasNumber (bundle t e u f : List ℕ) (r : ℕ) : Type 0 where
   pub answer : r ≡ Read.numberOf (Read.answerOf (Read.callOf bundle (length t) (length e)))
   pub text : u ≡ Read.textBytes (Read.callOf bundle (length t) (length e)) (length t)
   pub events : f ≡ Read.eventBytes (Read.callOf bundle (length t) (length e)) (length e)
+
+-- all options off, LF for a text without line endings
+abbrev pub plain : Options
+plain = record { «allow_dangerous_html» = false; «allow_dangerous_protocol» = false; «allow_any_img_src» = false; ending = Lf }
+
+abbrev pub packedBuilt : Built → ℕ
+packedBuilt (Page n) = n
+packedBuilt (Refused c) = 2 ^ 63 + Checked.numberOf c
+packedBuilt (WorkFull i) = 2 ^ 63 + 8
+packedBuilt (PageFull i) = 2 ^ 63 + 9
+
+-- as `Builds` of the build, with the number for the answer
+pub record PacksBuilt (text events out work out′ work′ : List ℕ) (r : ℕ) : Type 0 where
+  pub answer : Built
+  pub builds : Builds text events plain out work out′ work′ answer
+  pub packs : r ≡ packedBuilt answer

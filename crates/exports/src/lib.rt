@@ -1,11 +1,15 @@
-// The library for C and Rust: two public calls with plain numbers for answers, and what is measured alone.
+// The library for C and Rust: public calls with plain numbers for answers, and what is measured alone.
 ghost use mathlib.Core.Bool.{true};
 ghost use mathlib.Core.Path.{_≡_};
 ghost use Rattle.lent.specs.Fill.{Filled};
 ghost use Rattle.encode.specs.Encode.{encodeOf};
 ghost use Rattle.sanitize_uri.specs.Url.{sanitizeOf};
 ghost use Rattle.checker.specs.Checked.{checkOf, numberOf};
-ghost use Rattle.exports.specs.Packed.{packed, HasNumber, Packs};
+ghost use Prim.Native.Nat.{_+_, _^_};
+ghost use Rattle.exports.specs.Packed.{packed, HasNumber, Packs, packedBuilt, plain, PacksBuilt};
+use build::Built;
+use machine::Ending;
+use machine::Options;
 
 // Escapes a text for HTML, encoding on.
 #[no_mangle]
@@ -47,6 +51,44 @@ pub extern "C" fn page_check(text: &[u8], events: &[u8]) -> u32
 {
     let checked = page::check(text, events);
     checker::number(checked)
+}
+
+// Builds a page, all options off and LF for a text without line endings.
+#[no_mangle]
+pub extern "C" fn page_build(text: &[u8], events: &[u8], out: &mut [u8], work: &mut [u8]) -> u64
+    ensures { λ r. ⌜ PacksBuilt (now (text .entry)) (now (events .entry)) (now (out .entry)) (now (work .entry)) (now (out .exit)) (now (work .exit)) r ⌝ }
+{
+    let built = page::build(text, events, plain_options(), out, work);
+    pack_built(built)
+}
+
+fn plain_options() -> Options
+    ensures { λ r. ⌜ r ≡ plain ⌝ }
+{
+    Options {
+        allow_dangerous_html: false,
+        allow_dangerous_protocol: false,
+        allow_any_img_src: false,
+        ending: Ending::Lf,
+    }
+}
+
+// The length, or 2^63 and the refusal's number.
+fn pack_built(b: Built) -> u64
+    ensures { λ r. ⌜ r ≡ packedBuilt b ⌝ }
+{
+    match b {
+        Built::Page(n) => n as u64,
+        Built::Refused(c) => pack_number(checker::number(c)),
+        Built::WorkFull(_) => 0x8000000000000008,
+        Built::PageFull(_) => 0x8000000000000009,
+    }
+}
+
+fn pack_number(n: u32) -> u64
+    ensures { λ r. ⌜ r ≡ 2 ^ 63 + n ⌝ }
+{
+    0x8000000000000000 + n as u64
 }
 
 // Reads a bundle; the answer is 01's number alone.
