@@ -15,8 +15,8 @@ use Rattle.whole.specs.declared.Whole.{Whole}
 use Rattle.whole.specs.Quiet.{isQuiet}
 use Rattle.whole.specs.Whole.{World, Handles, withContext}
 use Rattle.whole.proofs.Lifts.{needs-less}
-use Rattle.turns.specs.Turns.{TurnAt, Turns, commandFor}
-use Rattle.turns.specs.Loud.{world, Spare, Turned}
+use Rattle.turns.specs.Turns.{TurnAt, commandFor}
+use Rattle.turns.specs.Loud.{world, Turned}
 use Rattle.turns.proofs.Lifted.{lifts-turns}
 use Rattle.enters.specs.Enters as Enters
 use Rattle.enters_whole.specs.Enters as EntersWhole
@@ -25,52 +25,62 @@ use Rattle.exits_text.specs.Exits as ExitsText
 use Rattle.exits_flow.specs.Exits as ExitsFlow
 use Rattle.exits_whole.specs.Exits as ExitsWhole
 use Rattle.exits_whole.proofs.Names as ExitNames
-use Rattle.handle.specs.Handled.{Entered, QuietExit, Exited}
+use Rattle.handle.specs.Handled.{Quietly, Wholly}
 
 -- by what a turn shows
 seen-as : {text : List ℕ} {N : Whole → Type 0} {View Wide : Turn → Type 0} {d : Command} {b r : Whole} {w w′ : World} → ((t : Turn) → View t → Wide t) → Handles text N Wide d b w r w′ → Handles text N View d b w r w′
 seen-as f k = record { handles = λ t s u v a y p. k .handles t s u (f t v) a y p }
 
--- the context's part of the work bytes is lent
-lent : {text : List ℕ} {View : Turn → Type 0} {d : Command} {b : Whole} {c : Context} {work starts out captures′ starts′ out′ : List ℕ} {t : Tables} → isQuiet d ≡ true → Turns View d (b .context) (take 16384 work) starts out c captures′ starts′ out′ → length captures′ ≡ length (take 16384 work) → length starts′ ≡ length starts
-    → Handles text Spare View d b (world work out starts t) (withContext c b) (world (captures′ ++ drop 16384 work) out′ starts′ t)
-lent {work = work} {starts} {out} {t = t} q k l m = needs-less (λ a. a .roomy) (lifts-turns {w = world work out starts t} q k refl refl refl l m)
+not-not : (x y : Bool) → x ≡ not y → y ≡ not x
+not-not true true p = p
+not-not true false p = refl
+not-not false true p = refl
+not-not false false p = p
 
--- ---- enters
+-- ---- which is which
 
-module _ {e : Event} {allowed : Bool} {b : Whole} {work starts out : List ℕ} {x : Bool} (n : e .name ≤ 255) (p : x ≡ EntersWhole.isWhole (e .name)) where
-  pub entered-loud : {r : Whole} {starts′ : List ℕ} → x ≡ true → EntersWhole.Enters e b starts r starts′ → Entered e allowed b work starts out r work starts′ out
-  entered-loud z k = record { entered = λ h text events o i t y a. seen-as (λ t v. record {}) (k .enters text work out t .acts h zero-le n (EnterLaws.quiet-is e h n ∙ ap not (sym p ∙ z))) }
+module _ (e : Event) {x r : Bool} (q : x ≡ isEnter e) (n : e .name ≤ 255) where
+  pub whole-enter : x ≡ true → r ≡ EntersWhole.isWhole (e .name) → r ≡ not (isQuiet (commandFor e))
+  whole-enter z p = not-not (isQuiet (commandFor e)) r (EnterLaws.quiet-is e (sym q ∙ z) n ∙ ap not (sym p))
 
-  pub entered-quiet : {c : Context} {captures′ starts′ out′ : List ℕ} → x ≡ false → Enters.Enters e allowed (b .context) (take 16384 work) starts out c captures′ starts′ out′ → length captures′ ≡ length (take 16384 work) → length starts′ ≡ length starts
-      → Entered e allowed b work starts out (withContext c b) (captures′ ++ drop 16384 work) starts′ out′
-  entered-quiet z k l m = record { entered = λ h text events o i t y a. (let q = EnterLaws.quiet-is e h n ∙ ap not (sym p ∙ z) in lent q (k .enters h text events o i y a .dispatches q) l m) }
+  pub whole-exit : x ≡ false → r ≡ ExitsWhole.isWhole (e .name) → r ≡ not (isQuiet (commandFor e))
+  whole-exit z p = not-not (isQuiet (commandFor e)) r (ExitNames.quiet-is e (sym q ∙ z) n ∙ ap not (sym p))
 
--- ---- exits
+-- ---- the context alone
 
-module _ {text events : List ℕ} {o : Options} {i : ℕ} {e : Event} {b : Whole} {work starts out : List ℕ} {x : Bool} where
-  module _ {c : Context} {captures′ out′ : List ℕ} (p : x ≡ ExitsText.isText (e .name)) where
-    pub quiet-text : x ≡ true → ExitsText.Exits text events o i e (b .context) (take 16384 work) starts out c captures′ starts out′ → length captures′ ≡ length (take 16384 work)
-        → QuietExit text events o i e b work starts out (withContext c b) (captures′ ++ drop 16384 work) starts out′
-    quiet-text z k l = record { exits = λ h q t y. lent q (k .exits y h (sym p ∙ z) .dispatches q) l refl }
+module _ {text events : List ℕ} {o : Options} {i : ℕ} {e : Event} {c r : Context} {captures starts out captures′ starts′ out′ : List ℕ} {x : Bool} (q : x ≡ isEnter e) where
+  pub quiet-enter : x ≡ true → Enters.Enters e (o .«allow_dangerous_html») c captures starts out r captures′ starts′ out′ → Quietly text events o i e c captures starts out r captures′ starts′ out′
+  quiet-enter z k = record { quietly = λ y. k .enters (sym q ∙ z) text events o i y refl }
 
-    pub quiet-flow : {starts′ : List ℕ} → x ≡ false → ExitsFlow.Exits text events i e (b .context) (take 16384 work) starts out c captures′ starts′ out′ → length captures′ ≡ length (take 16384 work) → length starts′ ≡ length starts
-        → QuietExit text events o i e b work starts out (withContext c b) (captures′ ++ drop 16384 work) starts′ out′
-    quiet-flow z k l m = record { exits = λ h q t y. lent q (k .exits o y h (sym p ∙ z) .dispatches q) l m }
+  module _ {l : Bool} (z : x ≡ false) (p : l ≡ ExitsText.isText (e .name)) where
+    pub quiet-text : l ≡ true → ExitsText.Exits text events o i e c captures starts out r captures′ starts′ out′ → Quietly text events o i e c captures starts out r captures′ starts′ out′
+    quiet-text a k = record { quietly = λ y. k .exits y (sym q ∙ z) (sym p ∙ a) }
 
-  module _ {r : Whole} {work′ out′ : List ℕ} {t : Tables} (n : e .name ≤ 255) (p : x ≡ ExitsWhole.isWhole (e .name)) where
-    pub exited-loud : {t′ : Tables} → x ≡ true → ExitsWhole.Exits text e o b work starts out t r work′ out′ t′ → Exited text events o i e b (world work out starts t) r (world work′ out′ starts t′)
-    exited-loud z k =
-        record { exits = λ h y. seen-as (λ t v. record { text-is = v .text-is; options-are = v .options-are; event-is = v .event-is ∙ y }) (k .exits .acts h zero-le n (ExitNames.quiet-is e h n ∙ ap not (sym p ∙ z))) }
+    pub quiet-flow : l ≡ false → ExitsFlow.Exits text events i e c captures starts out r captures′ starts′ out′ → Quietly text events o i e c captures starts out r captures′ starts′ out′
+    quiet-flow a k = record { quietly = λ y. k .exits o y (sym q ∙ z) (sym p ∙ a) }
 
-    pub exited-quiet : {starts′ : List ℕ} → x ≡ false → QuietExit text events o i e b work starts out r work′ starts′ out′ → Exited text events o i e b (world work out starts t) r (world work′ out′ starts′ t)
-    exited-quiet z k = record { exits = λ h y. k .exits h (ExitNames.quiet-is e h n ∙ ap not (sym p ∙ z)) t y }
+-- ---- the whole
+
+module _ {text : List ℕ} {o : Options} {e : Event} {b r : Whole} {x : Bool} (q : x ≡ isEnter e) (n : e .name ≤ 255) where
+  pub wholly-enter : {work starts out starts′ : List ℕ} {t : Tables} → x ≡ true → EntersWhole.Enters e b starts r starts′ → Wholly text o e b (world work out starts t) r (world work out starts′ t)
+  wholly-enter {work} {out = out} {t = t} z k = record { wholly = λ l. seen-as (λ t v. record {}) (k .enters text work out t .acts (sym q ∙ z) zero-le n l) }
+
+  pub wholly-exit : {work starts out work′ out′ : List ℕ} {t t′ : Tables} → x ≡ false → ExitsWhole.Exits text e o b work starts out t r work′ out′ t′ → Wholly text o e b (world work out starts t) r (world work′ out′ starts t′)
+  wholly-exit z k = record { wholly = λ l. k .exits .acts (sym q ∙ z) zero-le n l }
 
 -- ---- a turn
 
-module _ {text events : List ℕ} {o : Options} {i : ℕ} {e : Event} {b r : Whole} {x : Bool} (p : e ≡ eventAt events i) (q : x ≡ isEnter e) where
-  pub turned-enter : {work starts out work′ starts′ out′ : List ℕ} {t : Tables} → x ≡ true → Entered e (o .«allow_dangerous_html») b work starts out r work′ starts′ out′ → Turned text events o i b (world work out starts t) r (world work′ out′ starts′ t)
-  turned-enter {t = t} z k = record { turned = rw (← p) (k .entered (sym q ∙ z) text events o i t (sym p) refl) }
+is-quiet : (e : Event) {x y : Bool} → x ≡ not (isQuiet (commandFor e)) → x ≡ y → isQuiet (commandFor e) ≡ not y
+is-quiet e {x} w z = not-not x (isQuiet (commandFor e)) w ∙ ap not z
 
-  pub turned-exit : {w w′ : World} → x ≡ false → Exited text events o i e b w r w′ → Turned text events o i b w r w′
-  turned-exit z k = record { turned = rw (← p) (k .exits (sym q ∙ z) (sym p)) }
+module _ {text events : List ℕ} {o : Options} {i : ℕ} {e : Event} {b : Whole} {x : Bool} (p : e ≡ eventAt events i) (h : x ≡ not (isQuiet (commandFor e))) where
+  -- the context's part of the work bytes is lent
+  pub turned-quietly : {r : Context} {work starts out captures′ starts′ out′ : List ℕ} {t : Tables} → x ≡ false → Quietly text events o i e (b .context) (take 16384 work) starts out r captures′ starts′ out′
+      → length captures′ ≡ length (take 16384 work) → length starts′ ≡ length starts → Turned text events o i b (world work out starts t) (withContext r b) (world (captures′ ++ drop 16384 work) out′ starts′ t)
+  turned-quietly {work = work} {starts} {out} {t = t} z k l m =
+      let q = is-quiet e h z in
+      record { turned = rw (← p) (needs-less (λ a. a .roomy) (lifts-turns {w = world work out starts t} q (k .quietly (sym p) .dispatches q) refl refl refl l m)) }
+
+  pub turned-wholly : {r : Whole} {w w′ : World} → x ≡ true → Wholly text o e b w r w′ → Turned text events o i b w r w′
+  turned-wholly z k =
+      record { turned = rw (← p) (seen-as (λ t v. record { text-is = v .text-is; options-are = v .options-are; event-is = v .event-is ∙ sym p }) (k .wholly (is-quiet e h z))) }

@@ -1,27 +1,22 @@
--- What the inner functions do: no part of a promise. Assumes nothing.
+-- What becomes of an event. Assumes nothing.
 use mathlib.Core.Path.{_≡_}
 use mathlib.Core.Bool.{Bool, true, false}
 use mathlib.Core.List.{List}
 use Prim.Native.Nat.{ℕ}
 use Rattle.event.specs.declared.Event.{Event}
-use Rattle.event.specs.Event.{isEnter, eventAt}
+use Rattle.event.specs.Event.{eventAt}
 use Rattle.machine.specs.declared.Options.{Options}
-use Rattle.kept.specs.Kept.{Tables}
+use Rattle.context.specs.declared.Context.{Context}
 use Rattle.whole.specs.declared.Whole.{Whole}
 use Rattle.whole.specs.Quiet.{isQuiet}
 use Rattle.whole.specs.Whole.{World, Handles}
-use Rattle.turns.specs.Turns.{TurnAt, commandFor}
-use Rattle.turns.specs.Loud.{world, Spare}
+use Rattle.turns.specs.Turns.{TurnAt, Dispatches, commandFor}
+use Rattle.turns.specs.Loud.{Spare, Shows}
 
--- an enter, in any turn of its own
-pub record Entered (e : Event) (allowed : Bool) (b : Whole) (work starts out : List ℕ) (r : Whole) (work′ starts′ out′ : List ℕ) : Type 0 where
-  pub entered : isEnter e ≡ true → (text events : List ℕ) (o : Options) (i : ℕ) (t : Tables) → eventAt events i ≡ e → o .«allow_dangerous_html» ≡ allowed
-      → Handles text Spare (TurnAt text events o i) (commandFor e) b (world work out starts t) r (world work′ out′ starts′ t)
+-- the event at an index, where its command is quiet
+pub record Quietly (text events : List ℕ) (o : Options) (i : ℕ) (e : Event) (c : Context) (captures starts out : List ℕ) (r : Context) (captures′ starts′ out′ : List ℕ) : Type 0 where
+  pub quietly : eventAt events i ≡ e → Dispatches (TurnAt text events o i) e c captures starts out r captures′ starts′ out′
 
--- an exit whose command is quiet
-pub record QuietExit (text events : List ℕ) (o : Options) (i : ℕ) (e : Event) (b : Whole) (work starts out : List ℕ) (r : Whole) (work′ starts′ out′ : List ℕ) : Type 0 where
-  pub exits : isEnter e ≡ false → isQuiet (commandFor e) ≡ true → (t : Tables) → eventAt events i ≡ e
-      → Handles text Spare (TurnAt text events o i) (commandFor e) b (world work out starts t) r (world work′ out′ starts′ t)
-
-pub record Exited (text events : List ℕ) (o : Options) (i : ℕ) (e : Event) (b : Whole) (w : World) (r : Whole) (w′ : World) : Type 0 where
-  pub exits : isEnter e ≡ false → eventAt events i ≡ e → Handles text Spare (TurnAt text events o i) (commandFor e) b w r w′
+-- an event whose command is not
+pub record Wholly (text : List ℕ) (o : Options) (e : Event) (b : Whole) (w : World) (r : Whole) (w′ : World) : Type 0 where
+  pub wholly : isQuiet (commandFor e) ≡ false → Handles text Spare (Shows text o e) (commandFor e) b w r w′

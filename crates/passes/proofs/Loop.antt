@@ -1,24 +1,27 @@
 -- The loop of a pass, step by step. Assumes nothing.
 use mathlib.Core.Path.{_≡_, refl, sym, ap, _∙_}
 use mathlib.Core.Bool.{Bool, true, false, not, _||_}
-use mathlib.Core.List.{List}
+use mathlib.Core.Logic.{_⊎_, inl, inr, ⊎-elim}
+use mathlib.Core.List.{List, _++_}
 use Prim.Native.Nat.{ℕ, _+_, _/_, _≤_, _<_}
-use borrow.Author.Tests.{eq-eqb, ne-eqb}
+use native.Mathlib.Omega.{arith}
+use borrow.Author.Tests.{ne-eqb}
 use lib.Dec.{eqb}
-use lib.ListN.{length}
+use lib.ListN.{length, take, drop}
 use Rattle.event.specs.declared.Event.{Event}
 use Rattle.event.specs.Event.{eventAt}
 use Rattle.machine.specs.declared.Options.{Options}
 use Rattle.whole.specs.declared.Whole.{Whole}
 use Rattle.whole.specs.Whole.{World}
+use Rattle.whole.proofs.Parts.{front-long, as-long}
 use Rattle.turns.specs.Loud.{Turned}
-use Rattle.turns.specs.Passing.{turnsLeft, isHere, staysInside}
-use Rattle.passes.specs.declared.Step.{Step}
+use Rattle.turns.specs.Passing.{isHere, staysInside}
 use Rattle.passes.specs.declared.Passed.the-variants.{On, Over}
 use Rattle.passes.specs.Lacking.{Lacks}
-use Rattle.passes.specs.Passing.{Reaches, wanted, Passes}
-use Rattle.passes.specs.Private.{Steps, Stepped}
-use Rattle.passes.proofs.Passing.{starts-so, skips, goes-by, refuses-at, ends-so}
+use Rattle.idle.specs.Idle.{Idles}
+use Rattle.passes.specs.Passing.{wanted, Passes}
+use Rattle.passes.specs.Private.{Steps, Leaves}
+use Rattle.passes.proofs.Passing.{starts-so, skips, stays-so, goes-by, refuses-at, ends-so}
 
 -- ---- where an event is
 
@@ -60,6 +63,29 @@ module _ (e : Event) (inside : Bool) where
     pub wanted-second : first ≡ false → not r ≡ wanted first inside e
     wanted-second p = rw (p, q)
 
+-- ---- what is left out
+
+either : (x : Bool) → (x ≡ true) ⊎ (x ≡ false)
+either true = inl refl
+either false = inr refl
+
+no-clash : {A : Type 0} → true ≡ false → A
+no-clash z = let y : _≡_ {A = ℕ} 0 1 = cc in absurd (omega arith)
+
+module _ {first inside : Bool} (e : Event) {x : Bool} (p : x ≡ wanted first inside e) where
+  pub leaves-idle : {kind name : ℕ} {r : Bool} → x ≡ true → kind ≡ e .kind → name ≡ e .name → Idles kind name r → Leaves first inside e r
+  leaves-idle z k n h = record { left = λ q w. h .idles e (sym k) (sym n) q; taken = λ q. sym p ∙ z }
+
+  pub leaves-other : x ≡ false → Leaves first inside e true
+  leaves-other z = record { left = λ q w. no-clash (sym w ∙ sym p ∙ z); taken = λ q. no-clash q }
+
+-- the work bytes are as long where the captures' part of them is
+pub lent-long : (captures work : List ℕ) → length captures ≡ length (take 16384 work) → length work ≡ 49152 → length (captures ++ drop 16384 work) ≡ 49152
+lent-long captures work p l = as-long captures work (p ∙ front-long work l) l
+
+pub lent-same : (captures work : List ℕ) {n : ℕ} → length captures ≡ length (take 16384 work) → length work ≡ 49152 → length work ≡ n → length (captures ++ drop 16384 work) ≡ n
+lent-same captures work p l q = lent-long captures work p l ∙ sym l ∙ q
+
 -- ---- steps
 
 module _ {first : Bool} {text events : List ℕ} {o : Options} where
@@ -69,15 +95,15 @@ module _ {first : Bool} {text events : List ℕ} {o : Options} where
   pub all-steps : {b : Whole} {w : World} {inside : Bool} {i : ℕ} {r : Whole} {w′ : World} → length events / 20 ≤ i → Steps first text events o b w inside i r w′ → Passes first text events o b w (On r) w′
   all-steps {inside = inside} {i} h x = record { passes = ends-so first o inside i h (x .reached) }
 
-  module _ {inside : Bool} {i : ℕ} {r : Whole} {w : World} (h : i < length events / 20) where
-    pub left-out : {s : Step} → wanted first inside (eventAt events i) ≡ false → s .whole ≡ r → s .inside ≡ staysInside inside (eventAt events i) → s .number ≡ 0 → Stepped first text events o inside i r w s w
-    left-out p x y z = record {
-      goes-on = λ n k. rw (x, y) (record { reached = skips first o inside i h (k .reached) p; long = k .long });
-      is-over = λ n k. absurd (n z);
-    }
+  module _ {b : Whole} {w : World} {inside next : Bool} {i : ℕ} {r : Whole} {w′ : World} {x : Bool} (h : i < length events / 20) (m : next ≡ staysInside inside (eventAt events i)) (l : Leaves first inside (eventAt events i) x) (k : Steps first text events o b w inside i r w′) where
+    pub left-out : x ≡ true → Steps first text events o b w next (i + 1) r w′
+    left-out q =
+        ⊎-elim (λ z. rw m (record { reached = stays-so first o inside i h (k .reached) (l .left q z) z; long = k .long })) (λ z. rw m (record { reached = skips first o inside i h (k .reached) z; long = k .long }))
+        (either (wanted first inside (eventAt events i)))
 
-    pub taken : {s : Step} {w′ : World} → wanted first inside (eventAt events i) ≡ true → Turned text events o i r w (s .whole) w′ → length (w′ .out) ≡ length (w .out) → s .inside ≡ staysInside inside (eventAt events i) → Lacks (s .whole) (length (w′ .out)) (s .number) → Stepped first text events o inside i r w s w′
-    taken {s} {w′} p k l y n = record {
-      goes-on = λ z x. rw y (record { reached = goes-by first o inside i h (x .reached) p k l (rw (← (l ∙ x .long), ← z) n); long = l ∙ x .long });
-      is-over = λ z x. record { passes = record { refused-so = refuses-at first o inside i h (x .reached) p k l (rw (← (l ∙ x .long)) n) z; kinds = n .kinds z } };
-    }
+    module _ {u : Whole} {w″ : World} {number : ℕ} (q : x ≡ false) (t : Turned text events o i r w′ u w″) (n : length (w″ .out) ≡ length (w′ .out)) (a : Lacks u (length (w″ .out)) number) where
+      pub stepped : number ≡ 0 → Steps first text events o b w next (i + 1) u w″
+      stepped z = rw m (record { reached = goes-by first o inside i h (k .reached) (l .taken q) t n (rw (← (n ∙ k .long), ← z) a); long = n ∙ k .long })
+
+      pub over-here : (number ≡ 0 → ⊥) → Passes first text events o b w (Over number (record { 0 = i })) w″
+      over-here z = record { passes = record { refused-so = refuses-at first o inside i h (k .reached) (l .taken q) t n (rw (← (n ∙ k .long)) a) z; kinds = a .kinds z } }

@@ -1,5 +1,5 @@
 -- One event after the other of a pass. Assumes nothing.
-use mathlib.Core.Path.{_≡_, refl, sym, ap, _∙_}
+use mathlib.Core.Path.{_≡_, refl, sym, ap, subst, _∙_}
 use mathlib.Core.Bool.{Bool, true, false, not, _||_}
 use mathlib.Core.List.{List, [], _∷_, _++_}
 use mathlib.Core.Option.{Option, none, some}
@@ -15,7 +15,7 @@ use Rattle.machine.specs.declared.Options.{Options}
 use Rattle.machine.specs.State.{State}
 use Rattle.machine.specs.Outcome.{Outcome, stop, go}
 use Rattle.machine.specs.Turn.{Turn}
-use Rattle.machine.specs.Command.{exec}
+use Rattle.machine.specs.Command.{Command, nothing, exec}
 use Rattle.machine.specs.Handlers.{commandOf, handle}
 use Rattle.machine.specs.Totals.{captured, held, kept, over}
 use Rattle.machine.specs.Run.{Answer, refused, runFrom}
@@ -94,6 +94,9 @@ spare {text} {room} {b} {w} s x =
 
 -- ---- one turn
 
+same-go : {s u : State} → go s ≡ go u → s ≡ u
+same-go p = cc
+
 goes-first : {t : Turn} {ts : List Turn} {s v : State} → Goes (t ∷ ts) s v → (u : State) × (within (commandOf t) t s ≡ go u) × Goes ts u v
 goes-first (turns t {u = u} p g) = (u, p, g)
 
@@ -154,6 +157,26 @@ module _ (definitions : Bool) {text events : List ℕ} (o : Options) {room : ℕ
           let e = over-some room (a .1) number (n .lacks text w″ (a .1) c (a .2)) m in
           a .6 ∙ run-over (length events / 20) (over room) (turnAt text events o i) (turnsLeft definitions text events o (staysInside inside (eventAt events i)) (i + 1) ++ rest) (a .0) (a .1) (a .3) number e;
     }
+
+module _ (definitions : Bool) {text events : List ℕ} (o : Options) {room : ℕ} {before : List Turn} {b : Whole} {w : World} (inside : Bool) (i : ℕ) {r : Whole} {w′ : World} (h : i < length events / 20)
+    (x : Reaches text events room before (turnsLeft definitions text events o inside i) b w r w′) (n : commandFor (eventAt events i) ≡ nothing) where
+  idle : Turned text events o i r w′ r w′
+  unfolding exec
+  idle = record { turned = rw n (record { handles = λ t s u v a y p. subst (λ z. Built text r w′ z) (same-go (within-exec nothing t s u p)) y }) }
+
+  -- nothing is done at it
+  pub stays-so : wanted definitions inside (eventAt events i) ≡ true → Reaches text events room before (turnsLeft definitions text events o (staysInside inside (eventAt events i)) (i + 1)) b w r w′
+  unfolding handle exec
+  stays-so p = record {
+    reaches = λ rest s v y g.
+        let a = turned definitions o inside i h x p idle rest s v y g in
+        let t = turnAt text events o i in
+        let c = command-of t (eventAt events i) (turn-at text events o i h .event-is) ∙ n in
+        let q : a .0 ≡ a .1 = same-go (ap (λ (d : Command). exec d t (a .0)) (sym c) ∙ a .3) in
+        let e : over room (a .1) ≡ none = rw q at (a .5 .roomy) in
+        let z = run-on (length events / 20) (over room) t (turnsLeft definitions text events o (staysInside inside (eventAt events i)) (i + 1) ++ rest) (a .0) (a .1) (a .3) e in
+        (a .1, record { built = a .2; long = a .5 .long; roomy = e }, a .4, a .6 ∙ z);
+  }
 
 pub ends-so : (definitions : Bool) {text events : List ℕ} (o : Options) {room : ℕ} {before : List Turn} {b : Whole} {w : World} (inside : Bool) (i : ℕ) {r : Whole} {w′ : World} → length events / 20 ≤ i
     → Reaches text events room before (turnsLeft definitions text events o inside i) b w r w′ → Reaches text events room before [] b w r w′

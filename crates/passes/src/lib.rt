@@ -8,18 +8,11 @@ ghost use Rattle.turns.specs.Loud.{world};
 ghost use Rattle.turns.specs.Passing.{isHere, staysInside};
 ghost use Rattle.passes.specs.Lacking.{Lacks};
 ghost use Rattle.passes.specs.Passing.{wanted, Passes};
-ghost use Rattle.passes.specs.Private.{Stepped};
+ghost use Rattle.passes.specs.Private.{Leaves};
 use event::Event;
 use event::EventIndex;
 use machine::Options;
 use whole::Whole;
-
-// One step of a pass: the state after it, whether the next event is in a definition, and the number of the refusal, or 0.
-pub struct Step {
-    pub whole: Whole,
-    pub inside: bool,
-    pub number: usize,
-}
 
 // What a pass comes to: the state after it, or the number of the refusal and its event.
 pub enum Passed {
@@ -89,54 +82,15 @@ fn is_wanted(definitions: bool, inside: bool, events: &[u8], i: EventIndex) -> b
     !is_here(inside, events, i)
 }
 
-// The event at an index, where it is the pass's; else the state is left as it is.
-fn one_step(
-    r: Whole,
-    first: bool,
-    inside: bool,
-    text: &[u8],
-    events: &[u8],
-    i: EventIndex,
-    options: Options,
-    work: &mut [u8],
-    starts: &mut [usize],
-    out: &mut [u8],
-    definitions: &mut [usize],
-    footnotes: &mut [usize],
-    calls: &mut [usize],
-    labels: &mut [usize],
-) -> Step
-    requires { ⌜ (i .0 < length (now events) / 20) × (length (now work) ≡ 49152) ⌝ }
-    ensures { λ s. ⌜ Stepped first (now (text .entry)) (now (events .entry)) options inside (i .0) r (world (now (work .entry)) (now (out .entry)) (now (starts .entry)) (tables (now (definitions .entry)) (now (footnotes .entry)) (now (calls .entry)) (now (labels .entry)))) s (world (now (work .exit)) (now (out .exit)) (now (starts .exit)) (tables (now (definitions .exit)) (now (footnotes .exit)) (now (calls .exit)) (now (labels .exit)))) ⌝ }
+// Whether nothing is to be done at the event: it is not the pass's, or it has no handler.
+fn is_left(first: bool, inside: bool, events: &[u8], i: EventIndex) -> bool
+    requires { ⌜ i .0 < length (now events) / 20 ⌝ }
+    ensures { λ r. ⌜ Leaves first inside (eventAt (now (events .entry)) (i .0)) r ⌝ }
 {
-    let next = stays_inside(inside, events, i);
     if is_wanted(first, inside, events, i) {
-        let q = handle::handle(
-            r,
-            text,
-            events,
-            i,
-            options,
-            work,
-            starts,
-            out,
-            definitions,
-            footnotes,
-            calls,
-            labels,
-        );
-        let number = lack(q, out.len());
-        return Step {
-            whole: q,
-            inside: next,
-            number,
-        };
+        return idle::is_idle(event::kind_at(events, i), event::name_at(events, i));
     }
-    Step {
-        whole: r,
-        inside: next,
-        number: 0,
-    }
+    true
 }
 
 // The events of definitions, or all others, in order, up to the first after which there is no room.
@@ -163,28 +117,40 @@ pub fn pass(
     let mut i: usize = 0;
     while i < n {
         let at = EventIndex(i);
-        let s = one_step(
-            r,
-            first,
-            inside,
-            text,
-            events,
-            at,
-            options,
-            work,
-            starts,
-            out,
-            definitions,
-            footnotes,
-            calls,
-            labels,
-        );
-        if s.number != 0 {
-            return Passed::Over(s.number, at);
-        }
-        r = s.whole;
-        inside = s.inside;
+        let left = is_left(first, inside, events, at);
+        inside = stays_inside(inside, events, at);
         i += 1;
+        if left {
+            continue;
+        }
+        let e = Event::read(events, at);
+        if handle::is_whole(e) {
+            r = handle::handle_whole(
+                r,
+                text,
+                e,
+                options,
+                work,
+                starts,
+                out,
+                definitions,
+                footnotes,
+                calls,
+                labels,
+            );
+            let number = lack(r, out.len());
+            if number != 0 {
+                return Passed::Over(number, at);
+            }
+            continue;
+        }
+        let c = r.context;
+        let captures = &mut work[0..16384];
+        r.context = handle::handle(c, text, events, at, e, options, captures, starts, out);
+        let number = lack(r, out.len());
+        if number != 0 {
+            return Passed::Over(number, at);
+        }
     }
     Passed::On(r)
 }
