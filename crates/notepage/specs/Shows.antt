@@ -1,0 +1,39 @@
+-- What the program shows of a bundle: the page of its note with all options off, or the first refusal. Assumes nothing.
+use mathlib.Core.Path.{_≡_}
+use mathlib.Core.Bool.{false}
+use mathlib.Core.List.{List}
+use Prim.Native.Nat.{ℕ}
+use lib.ListN.{length}
+use Rattle.machine.specs.declared.Options.{Options}
+use Rattle.machine.specs.declared.Ending.the-variants.{Lf}
+use Rattle.bundle.specs.Bundle.{Meaning, says, refused}
+use Rattle.bundle.specs.Read as R
+use Rattle.build.specs.declared.Built.{Built}
+use Rattle.build.specs.declared.Built.the-variants as B
+use Rattle.build.specs.Build.{Ends}
+use Rattle.checker.specs.Checked as C
+use Rattle.notepage.specs.declared.Shown.{Shown}
+use Rattle.notepage.specs.declared.Shown.the-variants.{Page, Refused}
+
+abbrev pub offOf : Options
+offOf = record { «allow_dangerous_html» = false; «allow_dangerous_protocol» = false; «allow_any_img_src» = false; ending = Lf }
+
+abbrev pub shownOf : Built → Shown
+shownOf (B.Page n) = Page n
+shownOf (B.Refused c) = Refused (C.numberOf c) (C.placeOf c)
+shownOf (B.WorkFull i) = Refused 8 (i .0)
+shownOf (B.PageFull i) = Refused 9 (i .0)
+
+-- the note is built; s is what the program shows, and out′ what the output holds then
+pub record ShowsNote (text events out work out′ : List ℕ) (s : Shown) : Type 0 where
+  pub built : Built
+  pub ended : Ends text events offOf (length out) (length work) out′ built
+  pub shown : s ≡ shownOf built
+
+-- where the bundle is refused, that is shown
+abbrev pub ShowsOf : Meaning → (out work out′ : List ℕ) → Shown → Type 0
+ShowsOf (refused r) out work out′ s = s ≡ Refused (R.refusalNumber r) (R.refusalPlace r)
+ShowsOf (says text events edition) out work out′ s = ShowsNote text events out work out′ s
+
+pub record Shows (bundle text events out work out′ : List ℕ) (s : Shown) : Type 0 where
+  pub shows : ShowsOf (R.callOf bundle (length text) (length events)) out work out′ s
