@@ -5,7 +5,7 @@ use crate::drive::escaped;
 use crate::export::{export, page, PageOptions};
 use crate::judge::identity_by_01;
 use crate::lists::{Ask, List};
-use crate::notes::{large, pairs, random_note};
+use crate::notes::{large, page_pairs, pairs, random_note, random_note_of, Words};
 use crate::random::Random;
 use crate::record::{Record, ENTER, EXIT};
 use markdown::util::normalize_identifier::normalize_identifier;
@@ -13,6 +13,8 @@ use std::collections::BTreeMap;
 
 const SEED: u64 = 20_251_116;
 const RANDOM_NOTES: usize = 60_000;
+pub const PAGE_SEED: u64 = 20_251_120;
+const PAGE_NOTES: usize = 220_000;
 /// Longer notes are not made shorter, which would take too long: the smallest one seen is shown.
 const SHRUNK: usize = 200;
 
@@ -22,6 +24,17 @@ fn notes(with: &mut dyn FnMut(String)) {
     large(with);
     let mut random = Random(SEED);
     (0..RANDOM_NOTES).for_each(|_| with(random_note(&mut random)));
+}
+
+/// The notes whose pages are compared, with options from the seed.
+pub fn page_notes(with: &mut dyn FnMut(String, PageOptions)) {
+    let mut random = Random(PAGE_SEED);
+    let choose = |random: &mut Random| PageOptions { bits: random.below(8) as u8, ending: random.below(3) as u8 };
+    page_pairs(&mut |note| with(note, choose(&mut random)));
+    for _ in 0..PAGE_NOTES {
+        let note = random_note_of(Words::Pages, &mut random);
+        with(note, choose(&mut random));
+    }
 }
 
 /// The lists that the parser exports.
@@ -44,9 +57,20 @@ pub fn some_list(random: &mut Random, most: usize) -> List {
     }
 }
 
+/// The same with what matters to a page.
+pub fn some_page_list(random: &mut Random, most: usize) -> List {
+    loop {
+        let note = random_note_of(Words::Pages, random);
+        match export(&note) {
+            Some(records) if (1..=most).contains(&records.len()) => return List::new(note, &records),
+            _ => (),
+        }
+    }
+}
+
 /// What came of a note.
 #[derive(Clone, Copy, PartialEq, Eq, PartialOrd, Ord, Debug)]
-enum Case {
+pub enum Case {
     Yes,
     TextBehindSequences,
     ThirdSequence,
@@ -149,11 +173,37 @@ fn label_case(note: &str, records: &[Record], place: usize) -> Case {
     }
 }
 
+/// How many notes came under each case, and the smallest of each.
+#[derive(Default)]
+pub struct Cases(BTreeMap<Case, (usize, String)>);
+
+impl Cases {
+    /// Whether the note's list is passed.
+    pub fn count(&mut self, note: &str) -> bool {
+        self.put(case(note), note)
+    }
+
+    fn put(&mut self, which: Case, note: &str) -> bool {
+        let (count, least) = self.0.entry(which).or_insert((0, note.to_string()));
+        *count += 1;
+        if note.len() < least.len() {
+            *least = note.to_string();
+        }
+        which == Yes
+    }
+
+    /// Prints them; gives the number of notes that nothing explains.
+    pub fn show(&self) -> usize {
+        self.0.iter().for_each(|(case, (count, note))| show(*case, *count, note));
+        self.0.get(&Unexplained).map_or(0, |(count, _)| *count)
+    }
+}
+
 /// Counts the notes by case, with the smallest note of each, and compares the page of each exported list with the
 /// note's: these must be the same, where the extra field can hold all columns. The crate may panic only where enters and
 /// exits cross or 11 is empty. Gives the number of notes that nothing explains, and of pages that are not as they must be.
 pub fn cases() -> usize {
-    let mut smallest: BTreeMap<Case, (usize, String)> = BTreeMap::new();
+    let mut cases = Cases::default();
     let (mut pages, mut others, mut panics) = (0, 0, 0);
     notes(&mut |note| {
         let which = case(&note);
@@ -167,17 +217,11 @@ pub fn cases() -> usize {
             others += usize::from(panicked && !may_panic(&records));
             others += usize::from(compile(note.as_bytes(), &records, options) != wanted);
         }
-        let (count, least) = smallest.entry(which).or_insert((0, note.clone()));
-        *count += 1;
-        if note.len() < least.len() {
-            *least = note;
-        }
+        cases.put(which, &note);
     });
-    for (case, (count, note)) in &smallest {
-        show(*case, *count, note);
-    }
+    let unexplained = cases.show();
     println!("    pages: {pages} of notes and of their lists, {others} unexplained, {panics} panics");
-    smallest.get(&Unexplained).map_or(0, |(count, _)| *count) + others
+    unexplained + others
 }
 
 /// Where enters and exits cross, or an 11 is empty.

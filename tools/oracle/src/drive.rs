@@ -1,13 +1,15 @@
 // Runs the program `calls` on batches of requests and compares all that it writes with what the judge expects.
 use std::io::{Read, Write};
-use std::process::{Command, Stdio};
-use std::thread;
+use std::process::{Child, Command, Stdio};
+use std::thread::{self, JoinHandle};
 
 /// A process is given about this many bytes, requests and answers together: starting one costs as much as some
 /// thousand requests.
 const BATCH: usize = 8 << 20;
 /// So many differences are shown.
 const SHOWN: usize = 10;
+/// Longer requests are not made smaller, which would take too long.
+const SHRUNK: usize = 40_000;
 
 /// A request as `calls` takes it, with the answer that the judge expects.
 pub trait Asked: Clone {
@@ -16,6 +18,10 @@ pub trait Asked: Clone {
     /// How many bytes it has, and how many are asked for.
     fn size(&self) -> (usize, usize);
     fn shown(&self) -> String;
+    /// Requests that are a step smaller, the smallest first: by these a small one behind a difference is sought.
+    fn smaller(&self) -> Vec<Self> {
+        Vec::new()
+    }
 }
 
 /// The program under test, the batch that is being filled, and what was counted.
@@ -25,13 +31,15 @@ pub struct Drive<'a, A> {
     filled: usize,
     pub asked: usize,
     pub differences: usize,
+    /// how many answers of each number were wanted
+    pub numbers: [usize; 13],
     /// the first request whose answer differs, then the smallest, each with its place in its batch
     kept: Vec<(A, usize)>,
 }
 
 impl<'a, A: Asked> Drive<'a, A> {
     pub fn new(program: &'a [&'a str]) -> Self {
-        Drive { program, batch: Vec::new(), filled: 0, asked: 0, differences: 0, kept: Vec::new() }
+        Drive { program, batch: Vec::new(), filled: 0, asked: 0, differences: 0, numbers: [0; 13], kept: Vec::new() }
     }
 
     pub fn ask(&mut self, request: A) {
@@ -47,13 +55,16 @@ impl<'a, A: Asked> Drive<'a, A> {
     pub fn finish_batch(&mut self) {
         let batch = std::mem::take(&mut self.batch);
         self.filled = 0;
-        let came = run(self.program, &batch);
+        let running = start(self.program, &batch);
+        // while it runs
+        let answers: Vec<Vec<u8>> = batch.iter().map(A::expected).collect();
+        let came = running.finish();
         let mut rest = &came[..];
         self.asked += batch.len();
-        for (k, request) in batch.iter().enumerate() {
-            let wanted = request.expected();
+        for (k, (request, wanted)) in batch.iter().zip(&answers).enumerate() {
+            self.numbers[field(wanted, 0) as usize] += 1;
             let last = k + 1 == batch.len();
-            if rest.starts_with(&wanted) && (!last || rest.len() == wanted.len()) {
+            if rest.starts_with(wanted) && (!last || rest.len() == wanted.len()) {
                 rest = &rest[wanted.len()..];
             } else {
                 rest = &rest[answer_length(rest)..];
@@ -71,6 +82,11 @@ impl<'a, A: Asked> Drive<'a, A> {
 
     /// Shows what was kept. Each is asked again by itself: an answer of a wrong length makes those behind it differ too.
     pub fn show(&self) {
+        if let Some(small) = self.smallest() {
+            println!("made smaller: {}", small.shown());
+            println!("    wanted {}", told(&small.expected()));
+            println!("    came   {}", told(&run(self.program, std::slice::from_ref(&small))));
+        }
         for (request, place) in &self.kept {
             let wanted = request.expected();
             let came = run(self.program, std::slice::from_ref(request));
@@ -84,8 +100,31 @@ impl<'a, A: Asked> Drive<'a, A> {
     }
 }
 
-/// All that the program writes on these requests. It may end early: the missing answers show in the comparison.
-fn run<A: Asked>(program: &[&str], batch: &[A]) -> Vec<u8> {
+impl<A: Asked> Drive<'_, A> {
+    /// The smallest request that was kept and differs when asked alone, made smaller as long as a difference stays.
+    fn smallest(&self) -> Option<A> {
+        let differs = |request: &A| run(self.program, std::slice::from_ref(request)) != request.expected();
+        let kept = self
+            .kept
+            .iter()
+            .map(|(request, _)| request)
+            .filter(|request| request.size().0 < SHRUNK && !request.smaller().is_empty());
+        let mut least = kept.filter(|request| differs(request)).min_by_key(|request| request.size())?.clone();
+        while let Some(smaller) = least.smaller().into_iter().find(|smaller| differs(smaller)) {
+            least = smaller;
+        }
+        Some(least)
+    }
+}
+
+/// The program at work on a batch.
+struct Running {
+    child: Child,
+    writer: JoinHandle<()>,
+    reader: JoinHandle<Vec<u8>>,
+}
+
+fn start<A: Asked>(program: &[&str], batch: &[A]) -> Running {
     let mut input = Vec::new();
     for request in batch {
         request.write(&mut input);
@@ -97,15 +136,31 @@ fn run<A: Asked>(program: &[&str], batch: &[A]) -> Vec<u8> {
         .stdout(Stdio::piped())
         .spawn()
         .expect("the program can be started");
-    let mut stdin = child.stdin.take().unwrap();
+    let (mut stdin, mut stdout) = (child.stdin.take().unwrap(), child.stdout.take().unwrap());
     let writer = thread::spawn(move || {
         let _ = stdin.write_all(&input);
     });
-    let mut came = Vec::new();
-    child.stdout.take().unwrap().read_to_end(&mut came).expect("the program's output can be read");
-    writer.join().unwrap();
-    child.wait().unwrap();
-    came
+    let reader = thread::spawn(move || {
+        let mut came = Vec::new();
+        stdout.read_to_end(&mut came).expect("the program's output can be read");
+        came
+    });
+    Running { child, writer, reader }
+}
+
+impl Running {
+    /// All that the program writes. It may end early: the missing answers show in the comparison.
+    fn finish(mut self) -> Vec<u8> {
+        self.writer.join().unwrap();
+        let came = self.reader.join().unwrap();
+        self.child.wait().unwrap();
+        came
+    }
+}
+
+/// All that the program writes on these requests.
+fn run<A: Asked>(program: &[&str], batch: &[A]) -> Vec<u8> {
+    start(program, batch).finish()
 }
 
 fn field(answer: &[u8], at: usize) -> u32 {

@@ -7,7 +7,7 @@ use crate::record::{self, Record, EXIT};
 use crate::request::SANITIZE;
 
 /// An element, with the same slice for all that is in it.
-fn element(name: u8, from: usize, to: usize, inside: &[Record]) -> Vec<Record> {
+pub fn element(name: u8, from: usize, to: usize, inside: &[Record]) -> Vec<Record> {
     let mut records = vec![Record::enter(name)];
     records.extend(inside);
     records.push(Record::exit(name, from, to));
@@ -134,7 +134,7 @@ fn counts(ask: Ask) {
     }
 }
 
-fn shuffle<T>(items: &mut [T], random: &mut Random) {
+pub fn shuffle<T>(items: &mut [T], random: &mut Random) {
     for last in (1..items.len()).rev() {
         items.swap(last, random.below(last + 1));
     }

@@ -1,5 +1,5 @@
 // Lists made from 01's grammar, as the judge reads it: with the least that is required, or at random.
-use crate::check::{after, first_part, holds, FLOW, INLINE, PLAIN};
+use crate::check::{self, after, first_part, holds, FLOW, INLINE};
 use crate::lists::List;
 use crate::random::Random;
 use crate::record::Record;
@@ -15,6 +15,71 @@ const LABELS: [[&str; 2]; 8] = [
     ["z\u{1F44D}", "Z\u{1F44D}\r"],
     ["w w w", "w  W\nw"],
 ];
+/// Labels that the crate takes as 01 does: ASCII, and none with a gap inside.
+const PLAIN_LABELS: [[&str; 2]; 8] = [
+    ["a", "A"],
+    ["b-c", " B-C\r\n"],
+    ["", " \t"],
+    ["x-9\0", "\nX-9\0"],
+    ["&<\">", "&<\">\t"],
+    ["%4a", "%4A"],
+    ["[\\]", " [\\]"],
+    ["longer_Label:1?#/", "LONGER_label:1?#/"],
+];
+const PIECES: [&str; 10] = ["a", " ", "b*c", "é", "\u{20AC}", "\u{1F44D}", "\0", "\n", "&<>\"", "\t x"];
+/// What the handlers of a page tell apart, too.
+const PAGE_PIECES: [&str; 36] = [
+    "a",
+    " ",
+    "b*c",
+    "é",
+    "\u{20AC}",
+    "\u{1F44D}",
+    "\0",
+    "\n",
+    "&<>\"",
+    "\t x",
+    " a ",
+    "  ",
+    "   ",
+    " \\| ",
+    "\\|",
+    "\\\\|",
+    "|",
+    "\\",
+    "javascript:x",
+    "http://a/b",
+    "HTTPS:x",
+    "mailto:a@b",
+    "a?b:c",
+    "a/b:c",
+    ":x",
+    "%zz",
+    "%2",
+    "%%20",
+    "a b&c",
+    "</p>",
+    "</p>\n",
+    "\r",
+    "\r\n",
+    "x\n",
+    "x\r",
+    "data:é",
+];
+
+/// Of what lists are made.
+pub struct Words {
+    labels: &'static [[&'static str; 2]; 8],
+    pieces: &'static [&'static str],
+    /// whether the definitions that end a list have a destination, a title, a body
+    full: bool,
+}
+/// For the checker.
+const CHECKED: Words = Words { labels: &LABELS, pieces: &PIECES, full: false };
+/// For pages, with labels of which 01 and the crate think the same, and with others.
+pub const PLAIN: Words = Words { labels: &PLAIN_LABELS, pieces: &PAGE_PIECES, full: true };
+pub const ANY: Words = Words { labels: &LABELS, pieces: &PAGE_PIECES, full: true };
+
 /// Only what is required is put into elements that are nested so deep.
 const DEEP: usize = 54;
 
@@ -33,6 +98,7 @@ pub struct Maker {
     records: Vec<Record>,
     open: Vec<Open>,
     random: Option<Random>,
+    words: &'static Words,
     /// no more than what is required, once there are so many events
     enough: usize,
     /// what links and images look for, and what calls look for
@@ -41,19 +107,16 @@ pub struct Maker {
 
 impl Maker {
     pub fn least() -> Self {
-        Maker::new(None, 0)
+        Maker::new(None, 0, &CHECKED)
     }
 
-    pub fn random(seed: u64, enough: usize) -> Self {
-        Maker::new(Some(Random(seed)), enough)
-    }
-
-    fn new(random: Option<Random>, enough: usize) -> Self {
+    fn new(random: Option<Random>, enough: usize, words: &'static Words) -> Self {
         Maker {
             text: "aé".to_string(),
             records: Vec::new(),
             open: Vec::new(),
             random,
+            words,
             enough,
             sought: Default::default(),
         }
@@ -176,7 +239,7 @@ impl Maker {
         match word {
             "flow" => self.pick(FLOW),
             "inline" => self.pick(INLINE),
-            "plain" => self.pick(PLAIN),
+            "plain" => self.pick(check::PLAIN),
             _ => {
                 let numbers: Vec<u8> = word.split('/').map(|number| number.parse().expect("a number")).collect();
                 self.pick(&numbers)
@@ -227,14 +290,14 @@ impl Maker {
 
     /// A label, remembered by the element that looks for it: 52 goes before 48.
     fn label(&mut self, name: u8) -> (usize, usize) {
-        let label = self.below(LABELS.len());
+        let label = self.below(self.words.labels.len());
         let mut parents = self.open.iter_mut().rev().filter(|open| open.name > 2);
         match name {
             48 => parents.nth(1).map(|media| media.label = Some(label)),
             52 => parents.next().map(|media| media.label = Some(label)),
             _ => None,
         };
-        let spelling = self.pick(&LABELS[label]);
+        let spelling = self.pick(&self.words.labels[label]);
         self.piece(spelling)
     }
 
@@ -243,7 +306,7 @@ impl Maker {
         match self.below(4) {
             0 => (start, self.text.len()),
             1 | 2 => {
-                let piece = self.pick(&["a", " ", "b*c", "é", "\u{20AC}", "\u{1F44D}", "\0", "\n", "&<>\"", "\t x"]);
+                let piece = self.pick(self.words.pieces);
                 self.piece(piece)
             }
             _ => {
@@ -264,7 +327,7 @@ impl Maker {
             self.contents();
             self.exit();
         }
-        for (label, [plain, other]) in LABELS.into_iter().enumerate() {
+        for (label, [plain, other]) in self.words.labels.iter().enumerate() {
             let spelling = if self.below(2) == 0 { plain } else { other };
             if self.sought[0][label] {
                 self.define(&[53, 54], spelling);
@@ -279,13 +342,35 @@ impl Maker {
     fn define(&mut self, path: &[u8], label: &str) {
         self.records.extend(path.iter().map(|&name| Record::enter(name)));
         let (from, to) = self.piece(label);
-        self.records.extend(path.iter().rev().map(|&name| Record::exit(name, from, to)));
+        self.records.extend(path[1..].iter().rev().map(|&name| Record::exit(name, from, to)));
+        if self.words.full {
+            let further: &[u8] = if path[0] == 53 { &[55, 56] } else { &[12, 3] };
+            further.iter().for_each(|&name| self.further(name));
+        }
+        self.records.push(Record::exit(path[0], from, to));
+    }
+
+    /// Most times an element about a piece, or a line ending.
+    fn further(&mut self, name: u8) {
+        if self.below(3) == 0 {
+            return;
+        }
+        let inside: &[u8] = if name == 3 { &[3] } else { &[name, 5] };
+        let piece = if name == 3 { self.pick(&["\n", "\r", "\r\n"]) } else { self.pick(self.words.pieces) };
+        let (from, to) = self.piece(piece);
+        self.records.extend(inside.iter().map(|&name| Record::enter(name)));
+        self.records.extend(inside.iter().rev().map(|&name| Record::exit(name, from, to)));
     }
 }
 
 /// A list at random that 01's rules pass, of so many events and some more.
 pub fn random_list(random: &mut Random, enough: usize) -> List {
-    let mut maker = Maker::random(random.next(), enough);
+    random_list_of(&CHECKED, random, enough)
+}
+
+/// The same of other words.
+pub fn random_list_of(words: &'static Words, random: &mut Random, enough: usize) -> List {
+    let mut maker = Maker::new(Some(Random(random.next())), enough, words);
     while maker.records.len() < enough {
         maker.sprinkle(0);
         let name = maker.pick(FLOW);

@@ -1,4 +1,7 @@
 // The crate markdown 1.0.0 as the judge: compares the proved program `calls` with it, and writes what the gate replays.
+mod alone;
+mod build_vectors;
+mod builds;
 mod bundle;
 mod check;
 mod checks;
@@ -10,15 +13,23 @@ mod edges;
 mod every;
 mod export;
 mod families;
+mod files;
+mod given;
 mod grammar;
 mod judge;
 mod lists;
 mod notes;
+mod page_limits;
+mod page_table;
+mod pages;
+mod premises;
 mod random;
 mod record;
 mod references;
 mod request;
+mod shrink;
 mod table;
+mod totals;
 mod vectors;
 
 use drive::Drive;
@@ -27,8 +38,9 @@ use families::LEAVES;
 use std::process::exit;
 use std::time::Instant;
 
-const USAGE: &str = "usage: oracle leaves|bundles|checks PROGRAM WORDS... | oracle vectors DIR | oracle references | \
-    oracle export|compile OPTIONS ENDING";
+const USAGE: &str = "usage: oracle leaves|bundles|checks PROGRAM WORDS... | \
+    oracle builds all|FAMILY,.. PROGRAM WORDS... | oracle files PROGRAM WORDS... <PATHS | oracle alone | \
+    oracle vectors|build-vectors DIR | oracle references | oracle export|compile OPTIONS ENDING";
 
 fn main() {
     let words: Vec<String> = std::env::args().skip(1).collect();
@@ -37,7 +49,11 @@ fn main() {
         ["leaves", _, ..] => leaves(&words[1..]),
         ["bundles", _, ..] => bundles(&words[1..]),
         ["checks", _, ..] => checks(&words[1..]),
+        ["builds", families, _, ..] => builds(families, &words[2..]),
+        ["files", _, ..] => exit(i32::from(files::compare(&words[1..]) > 0)),
+        ["alone"] => exit(i32::from(alone::compare() > 0)),
         ["vectors", folder] => vectors::write(folder),
+        ["build-vectors", folder] => build_vectors::append(folder),
         ["references"] => references::print(),
         ["export", bits, ending] => export::print(page_options(bits, ending)),
         ["compile", bits, ending] => compile::print(page_options(bits, ending)),
@@ -56,6 +72,14 @@ fn page_options(bits: &str, ending: &str) -> PageOptions {
 /// Compares the reader with an independent reading of document 01.
 fn bundles(program: &[&str]) {
     if bundle::compare(program) > 0 {
+        exit(1);
+    }
+}
+
+/// Compares the build with the crate: all families, or those named with commas between.
+fn builds(families: &str, program: &[&str]) {
+    let named: Vec<&str> = families.split(',').filter(|&name| name != "all").collect();
+    if builds::compare(program, &named) > 0 {
         exit(1);
     }
 }

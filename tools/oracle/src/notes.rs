@@ -113,6 +113,83 @@ const LEAVES: [&str; 25] = [
 
 /// So that labels are defined, now and then.
 const DEFINITIONS: &str = "\n\n[a]: b\n[é]: /é \"c\"\n\n[^a]: d\n[^b]: e\n";
+/// The same without a label outside ASCII.
+const PLAIN_DEFINITIONS: &str =
+    "\n\n[a]: b\n[b]: <x y> 'c&'\n[d]: javascript:x\n\n[^a]: d\n[^b]: e\n    f\n\n[^c-1]: *g*\n";
+
+/// For pages: what their handlers tell apart, too.
+const MORE_CONSTRUCTS: [Construct; 30] = [
+    Around("| {} |\n|-|\n| `{}\\|b` |"),
+    Around("|{}|\n|:-|\n|a|b|[^a]{}|\n||"),
+    Around("[{}]: <javascript:{}> 'x'"),
+    Around("[a]: http://{}"),
+    Around("![{}](javascript:{})"),
+    Around("![{}](data:{} \"{}\")"),
+    Around("[{}](irc:{}) [x](y:{})"),
+    Around("<javascript:{}>"),
+    Around("<mailto:{}> <A@b.c>"),
+    Around("` {} `"),
+    Around("`{}\n{}`"),
+    Around("```{} x\n{}\n```\na"),
+    Around("~~~ é&amp;\\*\n\t{}"),
+    Around("[^a]: {}\n\n    [^a] {}\n"),
+    Around("[^c-1]{}[^a][^c-1]\n\n[^c-1]: <p>{}</p>"),
+    Around("[^b]: ```\n    {}"),
+    Around("![a ![b {}](c) d][a]"),
+    Around("[![{}](x)][b] `c`"),
+    Around("![*{}* `c` <http://x> **b**  \nx][a]"),
+    Around("1) {}\n\n1) b\n"),
+    Around("\t{}\n  \t{}"),
+    Around("> ```\n> {}\n{}"),
+    Around("- {}\n-\n  ***"),
+    Around("- a\n\n  [a]: {}\n- {}"),
+    Around("{}\n***\n{}\n---"),
+    Around("&#0;&#x{};&nbsp;&quot;&#{};"),
+    Around("<?{}?>"),
+    Around("a <!A {}> b"),
+    Around("[d] ![d] [a]{}[b][]"),
+    Container("> - 2. ", ">     "),
+];
+const MORE_LEAVES: [&str; 14] =
+    ["&amp;", "&#35;", "\\|", "|", "http://a?b&c", "%20", "%", "a.b", "a_b*c*", "<b>", "\"", "x", "[b]", "[^b]"];
+
+/// Of what notes are made: constructs and leaves by their number, those for pages last.
+#[derive(Clone, Copy, PartialEq)]
+pub enum Words {
+    Checked,
+    Pages,
+}
+
+impl Words {
+    fn constructs(self) -> Vec<Construct> {
+        match self {
+            Words::Checked => CONSTRUCTS.to_vec(),
+            Words::Pages => [&CONSTRUCTS[..], &MORE_CONSTRUCTS].concat(),
+        }
+    }
+
+    fn leaf(self, random: &mut Random) -> &'static str {
+        match self {
+            Words::Checked => random.pick(&LEAVES),
+            Words::Pages => random.pick(&[&LEAVES[..], &MORE_LEAVES].concat()),
+        }
+    }
+
+    fn construct(self, random: &mut Random) -> Construct {
+        match self {
+            Words::Checked => random.pick(&CONSTRUCTS),
+            Words::Pages => random.pick(&self.constructs()),
+        }
+    }
+
+    fn definitions(self, random: &mut Random) -> &'static str {
+        match self {
+            Words::Checked => DEFINITIONS,
+            Words::Pages if random.below(8) == 0 => DEFINITIONS,
+            Words::Pages => PLAIN_DEFINITIONS,
+        }
+    }
+}
 
 impl Construct {
     fn about(self, inside: &str) -> String {
@@ -125,10 +202,23 @@ impl Construct {
 
 /// Each construct in each other, about `a`, alone and with definitions.
 pub fn pairs(with: &mut dyn FnMut(String)) {
-    for outer in CONSTRUCTS {
-        for inner in CONSTRUCTS {
+    pairs_of(Words::Checked, DEFINITIONS, with);
+}
+
+/// The same for pages, with each line ending.
+pub fn page_pairs(with: &mut dyn FnMut(String)) {
+    pairs_of(Words::Pages, PLAIN_DEFINITIONS, &mut |note| {
+        with(note.replace('\n', "\r"));
+        with(note.replace('\n', "\r\n"));
+        with(note);
+    });
+}
+
+fn pairs_of(words: Words, definitions: &str, with: &mut dyn FnMut(String)) {
+    for outer in words.constructs() {
+        for inner in words.constructs() {
             let note = outer.about(&inner.about("a"));
-            with(note.clone() + DEFINITIONS);
+            with(note.clone() + definitions);
             with(note);
         }
     }
@@ -149,12 +239,16 @@ pub fn large(with: &mut dyn FnMut(String)) {
 }
 
 pub fn random_note(random: &mut Random) -> String {
-    let mut note = nested(random);
+    random_note_of(Words::Checked, random)
+}
+
+pub fn random_note_of(words: Words, random: &mut Random) -> String {
+    let mut note = nested(words, random);
     for _ in 0..random.below(4) {
-        note = changed(note, random);
+        note = changed(words, note, random);
     }
     if random.below(2) == 0 {
-        note += DEFINITIONS;
+        note += words.definitions(random);
     }
     match random.below(6) {
         0 => note.replace('\n', "\r"),
@@ -166,12 +260,12 @@ pub fn random_note(random: &mut Random) -> String {
 }
 
 /// One to three blocks, each of up to five constructs, one in the other.
-fn nested(random: &mut Random) -> String {
+fn nested(words: Words, random: &mut Random) -> String {
     let block = |random: &mut Random| {
-        let leaf = random.pick(&LEAVES).to_string();
+        let leaf = words.leaf(random).to_string();
         (0..random.below(6)).fold(leaf, |inside, _| {
             if inside.len() < 200 {
-                random.pick(&CONSTRUCTS).about(&inside)
+                words.construct(random).about(&inside)
             } else {
                 inside
             }
@@ -186,7 +280,7 @@ fn nested(random: &mut Random) -> String {
 }
 
 /// Cut, joined with another, or with some characters out, in, doubled or exchanged.
-fn changed(note: String, random: &mut Random) -> String {
+fn changed(words: Words, note: String, random: &mut Random) -> String {
     let mut characters: Vec<char> = note.chars().collect();
     let at = random.below(characters.len() + 1);
     let to = (at + random.below(4)).min(characters.len());
@@ -197,7 +291,7 @@ fn changed(note: String, random: &mut Random) -> String {
         3 => drop(characters.splice(at..at, random.pick(&PIECES).chars())),
         4 => drop(characters.splice(at..to, random.pick(&PIECES).chars())),
         5 => drop(characters.splice(at..at, characters[at..to].to_vec())),
-        _ => drop(characters.splice(at..to, nested(random).chars())),
+        _ => drop(characters.splice(at..to, nested(words, random).chars())),
     }
     characters.into_iter().collect()
 }

@@ -88,7 +88,7 @@ fn some_of(family: &Family, count: usize, random: &mut Random) -> Vec<Request> {
     groups.values().flat_map(|group| some(group, count, random)).collect()
 }
 
-fn some<T: Clone>(group: &[T], count: usize, random: &mut Random) -> Vec<T> {
+pub fn some<T: Clone>(group: &[T], count: usize, random: &mut Random) -> Vec<T> {
     let mut picked = BTreeSet::new();
     while picked.len() < count.min(group.len()) {
         picked.insert(random.below(group.len()));
