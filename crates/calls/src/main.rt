@@ -217,7 +217,7 @@ fn call_reader(bundle: &[u8], text: &mut [u8], events: &mut [u8]) -> bundle::Ans
     page::read_bundle(bundle, text, events)
 }
 
-fn call(r: Request, text: &[u8], out: &mut [u8]) -> page::Written {
+fn call(r: Request, text: &[u8], out: &mut [u8]) -> written::Written {
     fill(out, 0xA5);
     let op = r.op;
     match op {
@@ -248,7 +248,7 @@ fn put_head(out: &mut [u8], h: Head) {
     put_u32(out, 20, h.work);
 }
 
-fn written_head(w: page::Written, room: usize) -> Head {
+fn written_head(w: written::Written, room: usize) -> Head {
     Head {
         number: page::number(w),
         value: page::value(w),

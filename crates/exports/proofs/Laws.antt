@@ -8,8 +8,8 @@ use Rattle.bundle.specs.Read.{numberOf, HasRead}
 use Rattle.checker.specs.declared.Checked.{Checked}
 use Rattle.checker.specs.Checked as Checked
 use Rattle.checker.specs.Checked.{checkOf}
-use Rattle.page.specs.declared.Written.{Written}
-use Rattle.page.specs.Written.{bytesOf, Wrote}
+use Rattle.written.specs.declared.Written.{Written}
+use Rattle.written.specs.Written.{bytesOf, Wrote}
 use Rattle.machine.specs.declared.Options.{Options}
 use Rattle.build.specs.declared.Built.{Built}
 use Rattle.build.specs.declared.Built.the-variants.{Refused}

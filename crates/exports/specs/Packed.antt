@@ -5,9 +5,9 @@ use mathlib.Core.List.{List}
 use Prim.Native.Nat.{ℕ, _+_, _^_}
 use lib.ListN.{length}
 use Rattle.bundle.specs.Read
-use Rattle.page.specs.declared.Written.{Written}
-use Rattle.page.specs.declared.Written.the-variants.{Length, TooLong, NotUtf8, NoRoom}
-use Rattle.page.specs.Written.{numberOf, answerOf, bytesOf}
+use Rattle.written.specs.declared.Written.{Written}
+use Rattle.written.specs.declared.Written.the-variants.{Length, TooLong, NotUtf8, NoRoom}
+use Rattle.written.specs.Written.{numberOf, answerOf, bytesOf}
 use Rattle.checker.specs.Checked as Checked
 use Rattle.machine.specs.declared.Options.{Options}
 use Rattle.machine.specs.declared.Ending.the-variants.{Lf}

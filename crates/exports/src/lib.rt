@@ -101,13 +101,13 @@ pub extern "C" fn leaf_read_bundle(bundle: &[u8], text: &mut [u8], events: &mut 
 }
 
 // The length, or 2^63 and the refusal's number.
-fn pack(w: page::Written) -> u64
+fn pack(w: written::Written) -> u64
     ensures { λ r. ⌜ r ≡ packed w ⌝ }
 {
     match w {
-        page::Written::Length(n) => n as u64,
-        page::Written::TooLong => 0x8000000000000001,
-        page::Written::NotUtf8 => 0x8000000000000002,
-        page::Written::NoRoom => 0x8000000000000009,
+        written::Written::Length(n) => n as u64,
+        written::Written::TooLong => 0x8000000000000001,
+        written::Written::NotUtf8 => 0x8000000000000002,
+        written::Written::NoRoom => 0x8000000000000009,
     }
 }

@@ -1,0 +1,77 @@
+-- The calls that write a text: their answers, 01's numbers for them, and every byte afterwards. Assumes nothing.
+use mathlib.Core.Path.{_≡_}
+use mathlib.Core.Bool.{Bool, not}
+use mathlib.Core.List.{List, _++_}
+use Prim.Native.Nat.{ℕ, _-_}
+use lib.Dec.{leb, ltb}
+use lib.ListN.{length, take}
+use Rattle.lent.specs.Bytes.{if_then_else_}
+use Rattle.lent.specs.Fill.{zeros}
+use Rattle.utf8.specs.Utf8.{isUtf8}
+use Rattle.encode.specs.Encode.{encodeOf}
+use Rattle.sanitize_uri.specs.Url.{sanitizeOf}
+use Rattle.sanitize_uri.specs.Protocols.{linkSchemes, imageSchemes, sanitizeWithProtocolsOf}
+use Rattle.normalize_identifier.specs.Identity.{identityOf}
+use Rattle.written.specs.declared.Job.{Job}
+use Rattle.written.specs.declared.Job.the-variants.{Escape, Sanitize, SanitizeLink, SanitizeImage, Identity}
+use Rattle.written.specs.declared.Taken.{Taken}
+use Rattle.written.specs.declared.Taken.the-variants.{Yes, Refused}
+use Rattle.written.specs.declared.Written.{Written}
+use Rattle.written.specs.declared.Written.the-variants.{Length, TooLong, NotUtf8, NoRoom}
+
+-- the number: 0 for an answer, else the refusal's
+abbrev pub numberOf : Written → ℕ
+numberOf (Length n) = 0
+numberOf TooLong = 1
+numberOf NotUtf8 = 2
+numberOf NoRoom = 9
+
+-- the length, or the refusal's place
+abbrev pub valueOf : Written → ℕ
+valueOf (Length n) = n
+valueOf TooLong = 0
+valueOf NotUtf8 = 0
+valueOf NoRoom = 0
+
+-- the answer to a text whose result is to be written into a buffer of room bytes: 1 before 2 before 9
+unfoldable pub answerOf : List ℕ → List ℕ → ℕ → Written
+answerOf text result room =
+    if ltb 64000 (length text) then TooLong
+    else if not (isUtf8 text) then NotUtf8
+    else if ltb room (length result) then NoRoom
+    else Length (length result)
+
+-- what the buffer holds then: the result and zeros behind it, or zeros alone
+abbrev pub bytesOf : Written → List ℕ → ℕ → List ℕ
+bytesOf (Length n) result room = result ++ zeros (room - n)
+bytesOf TooLong result room = zeros room
+bytesOf NotUtf8 result room = zeros room
+bytesOf NoRoom result room = zeros room
+
+-- a call with this text and this result, on the buffer d, answered r and left e
+pub record Wrote (text result d e : List ℕ) (r : Written) : Type 0 where
+  pub answer : r ≡ answerOf text result (length d)
+  pub bytes : e ≡ bytesOf r result (length d)
+
+-- ---- said for the inner functions, no part of the promise
+
+-- what a call makes of its text
+abbrev pub resultOf : Job → List ℕ → List ℕ
+resultOf (Escape encoding) text = encodeOf encoding text
+resultOf Sanitize text = sanitizeOf text
+resultOf SanitizeLink text = sanitizeWithProtocolsOf linkSchemes text
+resultOf SanitizeImage text = sanitizeWithProtocolsOf imageSchemes text
+resultOf Identity text = identityOf text
+
+-- 1 and 2 alone
+unfoldable pub takenOf : List ℕ → Taken
+takenOf text = if ltb 64000 (length text) then Refused TooLong else if isUtf8 text then Yes else Refused NotUtf8
+
+-- 9 alone: what stands in d up to the place end is the result, or had no room
+pub record Ended (d : List ℕ) (end : ℕ) (e : List ℕ) (r : Written) : Type 0 where
+  pub answer : r ≡ (if leb end (length d) then Length end else NoRoom)
+  pub bytes : e ≡ (if leb end (length d) then take end d ++ zeros (length d - end) else zeros (length d))
+
+pub record Refuses (d : List ℕ) (w : Written) (e : List ℕ) (r : Written) : Type 0 where
+  pub answer : r ≡ w
+  pub bytes : e ≡ zeros (length d)
