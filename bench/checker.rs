@@ -117,4 +117,8 @@ fn print_worst() {
     let start = Instant::now();
     assert_eq!(check(&text, &events), 0);
     println!("refusal 7, {} events, labels of 63,000 bytes: {:.3} s", records.len(), start.elapsed().as_secs_f64());
+    let (mut out, mut work) = (vec![0; 65_536], vec![0; 49_152]);
+    let start = Instant::now();
+    assert_eq!(build(&text, &events, &mut out, &mut work), 7 + 447 * 15, "the length of 447 links");
+    println!("both, the same list: {:.3} s", start.elapsed().as_secs_f64());
 }
