@@ -1,7 +1,7 @@
 -- On a checked note the run under limits gives a page, 8 or 9: it never stops. Assumes nothing.
-use mathlib.Core.Path.{_≡_, refl}
+use mathlib.Core.Path.{_≡_}
 use mathlib.Core.Bool.{Bool, true, false, _||_}
-use mathlib.Core.List.{List, [], _∷_}
+use mathlib.Core.List.{List}
 use mathlib.Core.Option.{Option, none, some}
 use Prim.Native.Nat.{ℕ}
 use lib.Dec.{ltb}
@@ -11,7 +11,7 @@ use Rattle.event.specs.Event.{eventsOf}
 use Rattle.checker.specs.declared.Checked.the-variants.{Yes}
 use Rattle.checker.specs.Checked.{checkOf}
 use Rattle.machine.specs.declared.Options.{Options}
-use Rattle.machine.specs.State.{State, start}
+use Rattle.machine.specs.State.{State}
 use Rattle.machine.specs.Turn.{Turn}
 use Rattle.machine.specs.Handlers.{commandOf, handle}
 use Rattle.machine.specs.Test.{isEmpty}
@@ -23,7 +23,6 @@ use Rattle.clean.proofs.Within.{within-exec}
 use Rattle.clean.specs.Clean.{Clean}
 use Rattle.clean.specs.Section.{Called}
 use Rattle.clean.proofs.Section.{section-goes}
-use Rattle.to_html.specs.Renders.{Runs}
 use Rattle.build.proofs.Laws.{runs}
 
 pub data Given : Answer → Type 0 where

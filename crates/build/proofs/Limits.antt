@@ -1,5 +1,5 @@
 -- A page that is given under limits is the page without them. Assumes nothing.
-use mathlib.Core.Path.{_≡_, refl, ap}
+use mathlib.Core.Path.{_≡_, ap}
 use mathlib.Core.Bool.{Bool, true, false}
 use mathlib.Core.List.{List, [], _∷_}
 use mathlib.Core.Option.{Option, none, some}
@@ -16,7 +16,7 @@ use Rattle.machine.specs.Test.{isEmpty}
 use Rattle.machine.specs.Section.{footnoteSection}
 use Rattle.machine.specs.Handlers.{handle}
 use Rattle.machine.specs.Totals.{over}
-use Rattle.machine.specs.Run.{Answer, page, refused, stopped, pageOf, endingOf, turnsOf, sectionEnd, finish, runFrom, runWith, runOf, machineOf}
+use Rattle.machine.specs.Run.{page, refused, stopped, pageOf, endingOf, turnsOf, sectionEnd, finish, runFrom, runWith, runOf, machineOf}
 
 abbrev free : State → Option ℕ
 free s = none

@@ -15,7 +15,7 @@ use Rattle.whole.specs.declared.Whole.{Whole}
 use Rattle.whole.specs.Quiet.{isQuiet}
 use Rattle.whole.specs.Whole.{World, Handles, withContext}
 use Rattle.whole.proofs.Lifts.{needs-less}
-use Rattle.turns.specs.Turns.{TurnAt, commandFor}
+use Rattle.turns.specs.Turns.{commandFor}
 use Rattle.turns.specs.Loud.{world, Turned}
 use Rattle.turns.proofs.Lifted.{lifts-turns}
 use Rattle.enters.specs.Enters as Enters

@@ -1,9 +1,9 @@
 -- Each bit, by a computed test. Assumes nothing.
-use mathlib.Core.Path.{_≡_, refl, sym, ap, _∙_}
+use mathlib.Core.Path.{_≡_, refl, sym, _∙_}
 use mathlib.Core.Bool.{Bool, true, false}
-use Prim.Native.Nat.{ℕ, suc-le-suc, _+_, _/_, _%_, _^_, _≤_, _<_}
+use Prim.Native.Nat.{ℕ, _/_, _%_, _^_, _≤_, _<_}
 use native.Mathlib.Omega.{arith}
-use borrow.Author.Tests.{eqb-true, eq-eqb, ne-eqb}
+use borrow.Author.Tests.{eq-eqb, ne-eqb}
 use lib.Bits.{bitAnd, and-mask}
 use lib.Dec.{eqb}
 use Rattle.lent.specs.Bytes.{if_then_else_}
@@ -11,7 +11,6 @@ use Rattle.event.specs.declared.Event.{Event}
 use Rattle.event.specs.Event.{isEnter}
 use Rattle.machine.specs.Command.{Command, nothing}
 use Rattle.machine.specs.Handlers.{rows}
-use Rattle.turns.specs.Turns.{commandFor}
 use Rattle.turns.proofs.Turns.{command-is}
 use Rattle.turns.proofs.Arms.{handlerAt, below, each}
 use Rattle.idle.specs.Idle.{Idles}

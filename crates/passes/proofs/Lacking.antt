@@ -1,15 +1,12 @@
 -- The totals and the page, by the places behind them. Assumes nothing.
-use mathlib.Core.Path.{_≡_, refl, sym, ap, _∙_}
-use mathlib.Core.Bool.{Bool, true, false, _||_}
-use mathlib.Core.List.{List, [], _∷_, _++_}
-use mathlib.Core.Option.{Option, none, some}
+use mathlib.Core.Path.{_≡_, refl, ap}
+use mathlib.Core.List.{List, [], _∷_}
+use mathlib.Core.Option.{none}
 use Prim.Native.Nat.{ℕ, min, _+_, _≤_, _<_}
-use native.Mathlib.Decide.{decLe}
 use native.Mathlib.Omega.{arith}
 use borrow.Author.Tests.{lt-ltb, le-ltb}
 use lib.Dec.{ltb}
-use lib.ListN.{length, take, length-append}
-use Rattle.lent.specs.Bytes.{if_then_else_}
+use lib.ListN.{length, length-append}
 use Rattle.buffers.specs.Stand.{flat}
 use Rattle.machine.specs.State.{State}
 use Rattle.machine.specs.Totals.{sizes, captured, held, kept, over}

@@ -3,9 +3,9 @@ use mathlib.Core.Path.{_≡_, refl, sym, ap, subst, _∙_}
 use mathlib.Core.Bool.{Bool, true, false, not, _||_}
 use mathlib.Core.List.{List, [], _∷_, _++_}
 use mathlib.Core.Option.{Option, none, some}
-use Prim.Native.Nat.{ℕ, min, _+_, _/_, _≤_, _<_}
+use Prim.Native.Nat.{ℕ, _+_, _/_, _≤_, _<_}
 use native.Mathlib.Omega.{arith}
-use borrow.Author.Tests.{lt-ltb, ltb-false}
+use borrow.Author.Tests.{ltb-false}
 use lib.Dec.{ltb}
 use lib.ListN.{length}
 use Rattle.lent.specs.Bytes.{if_then_else_}
@@ -13,24 +13,23 @@ use Rattle.event.specs.declared.Event.{Event}
 use Rattle.event.specs.Event.{eventAt}
 use Rattle.machine.specs.declared.Options.{Options}
 use Rattle.machine.specs.State.{State}
-use Rattle.machine.specs.Outcome.{Outcome, stop, go}
+use Rattle.machine.specs.Outcome.{go}
 use Rattle.machine.specs.Turn.{Turn}
 use Rattle.machine.specs.Command.{Command, nothing, exec}
 use Rattle.machine.specs.Handlers.{commandOf, handle}
 use Rattle.machine.specs.Totals.{captured, held, kept, over}
-use Rattle.machine.specs.Run.{Answer, refused, runFrom}
 use Rattle.bounded.specs.Within.{within, Goes, ends, turns}
 use Rattle.clean.proofs.Within.{within-exec}
 use Rattle.whole.specs.declared.Whole.{Whole}
 use Rattle.whole.specs.Whole.{World, Built}
-use Rattle.turns.specs.Turns.{TurnAt, commandFor}
+use Rattle.turns.specs.Turns.{commandFor}
 use Rattle.turns.specs.Loud.{Spare, Turned}
-use Rattle.turns.specs.Passing.{turnsLeft, isHere, staysInside, turnAt}
+use Rattle.turns.specs.Passing.{turnsLeft, staysInside, turnAt}
 use Rattle.turns.proofs.Turns.{command-of}
 use Rattle.turns.proofs.Passing.{left-end, left-next, turn-at, run-over, run-on}
 use Rattle.passes.specs.Lacking.{numberOr, Lacks}
 use Rattle.passes.specs.Passing.{run, Stands, Reaches, Refuses, wanted}
-use Rattle.passes.proofs.Lacking.{Places, placed}
+use Rattle.passes.proofs.Lacking.{placed}
 
 -- ---- room
 

@@ -1,15 +1,13 @@
 -- Both passes together, and the whole. Assumes nothing.
 use mathlib.Core.Path.{_≡_, refl, sym, ap, subst, _∙_}
 use mathlib.Core.Bool.{Bool, true, false}
-use mathlib.Core.List.{List, [], _∷_, _++_, append-nil}
+use mathlib.Core.List.{List, [], append-nil}
 use mathlib.Core.Option.{none}
-use Prim.Native.Nat.{ℕ, zero-le, _/_, _≤_, _<_}
-use native.Mathlib.Omega.{arith}
+use Prim.Native.Nat.{ℕ, zero-le}
 use borrow.Author.Tests.{le-ltb}
 use lib.Dec.{eqb}
 use lib.ListN.{length}
 use borrow.Author.Tests.{eq-eqb, ne-eqb, eqb-true, eqb-false}
-use Rattle.lent.specs.Bytes.{if_then_else_}
 use Rattle.event.specs.declared.EventIndex.{EventIndex}
 use Rattle.event.specs.Event.{eventsOf}
 use Rattle.event.proofs.Laws.{length-events}
@@ -31,8 +29,8 @@ use Rattle.passes.specs.declared.Passed.the-variants.{On, Over}
 use Rattle.to_html.specs.declared.Rendered.{Rendered}
 use Rattle.to_html.specs.declared.Rendered.the-variants.{WorkFull, PageFull}
 use Rattle.passes.specs.Passing.{run, Stands, Passes}
-use Rattle.to_html.specs.Renders.{Runs, Answers, Renders}
-use Rattle.to_html.specs.Private.{overOf, Begun, Last, Finishes, turnsFrom, FinishesAll}
+use Rattle.to_html.specs.Renders.{Answers, Renders}
+use Rattle.to_html.specs.Private.{overOf, Begun, Finishes, turnsFrom, FinishesAll}
 
 -- ---- refused
 

@@ -1,19 +1,15 @@
 -- Behind the last event, and both passes together. Assumes nothing.
 use mathlib.Core.Path.{_≡_, refl, sym, ap, _∙_}
-use mathlib.Core.Bool.{Bool, true, false}
-use mathlib.Core.List.{List, [], _∷_, _++_, append-nil}
+use mathlib.Core.List.{List, [], _∷_}
 use mathlib.Core.Option.{none}
 use Prim.Native.Nat.{ℕ, _/_, _≤_, _<_}
 use native.Mathlib.Omega.{arith}
 use lib.ListN.{length, take}
-use Rattle.event.specs.declared.EventIndex.{EventIndex}
-use Rattle.machine.specs.declared.Options.{Options}
 use Rattle.machine.specs.State.{State, Call}
 use Rattle.machine.specs.Outcome.{go}
-use Rattle.machine.specs.Turn.{Turn}
 use Rattle.machine.specs.Section.{footnoteSection}
 use Rattle.machine.specs.Run.{Answer, page, refused}
-use Rattle.bounded.specs.Within.{Goes, ends, turns}
+use Rattle.bounded.specs.Within.{ends, turns}
 use Rattle.clean.specs.Section.{Appends}
 use Rattle.clean.proofs.Section.{section-goes}
 use Rattle.kept.specs.Kept.{tables}
@@ -21,10 +17,9 @@ use Rattle.buffers.specs.Stand.{Holds}
 use Rattle.section.specs.Contracts.{WritesSection}
 use Rattle.whole.specs.declared.Whole.{Whole}
 use Rattle.whole.specs.Whole.{World}
-use Rattle.turns.specs.Passing.{turnsLeft}
 use Rattle.to_html.specs.declared.Rendered.{Rendered}
-use Rattle.to_html.specs.declared.Rendered.the-variants.{Page, WorkFull, PageFull}
-use Rattle.passes.specs.Passing.{run, Stands}
+use Rattle.to_html.specs.declared.Rendered.the-variants.{Page, PageFull}
+use Rattle.passes.specs.Passing.{Stands}
 use Rattle.to_html.specs.Renders.{Answers}
 use Rattle.to_html.specs.Private.{Last, Finishes}
 use Rattle.passes.proofs.Passing.{Within, none-over}

@@ -1,6 +1,6 @@
 -- After the last event: the page as it is, or with the footnote section behind it. Assumes nothing.
-use mathlib.Core.Path.{_≡_, refl, sym, ap, _∙_}
-use mathlib.Core.Bool.{Bool, true, false, _||_}
+use mathlib.Core.Path.{_≡_, ap, _∙_}
+use mathlib.Core.Bool.{Bool, true, false}
 use mathlib.Core.List.{List, [], _∷_, _++_}
 use mathlib.Core.Option.{Option, none, some}
 use Prim.Native.Nat.{ℕ, _/_, _≤_, _<_}
@@ -8,15 +8,14 @@ use native.Mathlib.Omega.{arith}
 use borrow.Author.Tests.{le-ltb, lt-ltb}
 use lib.Dec.{ltb}
 use lib.ListN.{length}
-use Rattle.lent.specs.Bytes.{if_then_else_}
 use Rattle.machine.specs.State.{State, Call}
-use Rattle.machine.specs.Outcome.{Outcome, stop, go}
+use Rattle.machine.specs.Outcome.{go}
 use Rattle.machine.specs.Set.{setPage}
 use Rattle.machine.specs.Buffers.{push}
 use Rattle.machine.specs.Section.{footnoteSection}
 use Rattle.machine.specs.Test.{isEmpty}
 use Rattle.machine.specs.Totals.{captured, held, kept, over}
-use Rattle.machine.specs.Run.{Answer, page, refused, finish, sectionEnd, runFrom}
+use Rattle.machine.specs.Run.{page, refused, finish, sectionEnd, runFrom}
 use Rattle.clean.specs.Section.{Appends}
 use Rattle.buffers.proofs.Laws.{push-nil}
 use Rattle.passes.specs.Passing.{run}

@@ -1,7 +1,7 @@
 -- Before the first event. Assumes nothing.
 use mathlib.Core.Path.{_≡_, refl}
 use mathlib.Core.List.{List, []}
-use mathlib.Core.Option.{Option, none, some}
+use mathlib.Core.Option.{some}
 use Prim.Native.Nat.{ℕ, zero-le, _+_, _≤_}
 use native.Mathlib.Nat.{not-suc-le-zero}
 use native.Mathlib.Omega.{arith}
@@ -15,7 +15,6 @@ use Rattle.kept.specs.declared.Kept.{Kept}
 use Rattle.kept.specs.Kept.{Labels}
 use Rattle.context.specs.declared.Context.{Context}
 use Rattle.context.specs.Rel as Rel
-use Rattle.whole.specs.declared.Whole.{Whole}
 use Rattle.to_html.specs.Private.{noMedia, Begun}
 
 region-long : (base : ℕ) (w : List ℕ) → length w ≡ 49152 → base + 16384 ≤ 49152 → length (regionAt base w) ≡ 16384

@@ -1,7 +1,6 @@
 -- In the order of the numbers.
 use Rattle.passes.proofs.lack.Statement.{statement}
 use Rattle.passes.proofs.lack.Tie as tie
-use borrow.Author.Needs.{needs}
 use Rattle.passes.proofs.Lacking.{captures-lack, held-lacks, kept-lacks, page-lacks, none-lacks}
 
 returns : tie.Need-returns
