@@ -85,7 +85,7 @@ definition-calm : T (everyItem calm (holds 53))
 unfolding holds rules
 definition-calm = tt
 
-then : (x y : Bool) → T (not x || y) → T x → T y
+pub then : (x y : Bool) → T (not x || y) → T x → T y
 then true y t i = t
 then false y t i = absurd i
 

@@ -37,11 +37,11 @@ abbrev pub Clear : Bool → Forest → Type 0
 Clear true f = NoDefinition f
 Clear false f = Unit {0}
 
-clear-parts : (d : Bool) (a : Event) (f : Forest) (z : Event) (g : Forest) → Clear d (element a f z g) → Clear d f × Clear d g
+pub clear-parts : (d : Bool) (a : Event) (f : Forest) (z : Event) (g : Forest) → Clear d (element a f z g) → Clear d f × Clear d g
 clear-parts true a f z g c = (c .1, c .2)
 clear-parts false a f z g c = (tt, tt)
 
-clear-so : (d : Bool) (a : Event) (f : Forest) (z : Event) (g : Forest) → Clear d (element a f z g) → eqb (a .name) 53 ≡ true → d ≡ false
+pub clear-so : (d : Bool) (a : Event) (f : Forest) (z : Event) (g : Forest) → Clear d (element a f z g) → eqb (a .name) 53 ≡ true → d ≡ false
 clear-so true a f z g c e = clash e (c .0)
 clear-so false a f z g c e = refl
 
@@ -107,7 +107,7 @@ module _ (text : List ℕ) (o : Options) (Q : State → Type 0) where
             rw jump (beyond s (rel-later v (contractOf j .does) b s s hv idled) l w (keeps .over p before a f z (listOf g es) s d₂ n53 r tk₂ kf rd i) more)
 
         thick-along : T (c j) → eqb (a .name) 53 ≡ false → k + n + 1 ≤ 64 → T (small n (seq v (contractOf j .does)))
-            → ((x₁ y₁ : Shape) (u : State) → Low (k + n) s → Walk 1 ks x₁ y₁ → Along f 1 (k + n) s x₁ y₁ (suc p) (a ∷ before) (z ∷ listOf g es) tail u)
+            → ((x₁ y₁ : Shape) (u : State) → Low (k + n) s → Walk Rel rel-less 1 ks x₁ y₁ → Along f 1 (k + n) s x₁ y₁ (suc p) (a ∷ before) (z ∷ listOf g es) tail u)
             → Along (element a f z g) n k b x y p before es tail s
         thick-along ok isn't room tiny inside h l w i more =
             let hv = weak h in
@@ -120,12 +120,12 @@ module _ (text : List ℕ) (o : Options) (Q : State → Type 0) where
             (λ u₃ q₃ h₃ w₃. let h₄ = rel-later v (contractOf j .does) b s u₃ hv h₃ in
             beyond u₃ h₄ (low n k (seq v (contractOf j .does)) b u₃ tiny h₄ base) w₃ (keeps .left p before a f z (listOf g es) u₂ u₃ (thick j ok e l₀ r tk kf) isn't i₂ q₃) more)))
 
-    pub forest : {ks : List ℕ} {f : Forest} → Kinds ks f → T (every c ks) → Clear d f → (n k : ℕ) (b : State) → Low k b → k + n + deep f ≤ 64 → (x y : Shape) → Walk n ks x y → (p : ℕ) (before es : List Event) (tail : List Turn) (s : State) → Along f n k b x y p before es tail s
+    pub forest : {ks : List ℕ} {f : Forest} → Kinds ks f → T (every c ks) → Clear d f → (n k : ℕ) (b : State) → Low k b → k + n + deep f ≤ 64 → (x y : Shape) → Walk Rel rel-less n ks x y → (p : ℕ) (before es : List Event) (tail : List Turn) (s : State) → Along f n k b x y p before es tail s
     forest none ok c₀ n k b base room x y v p before es tail s = λ h l w i more. more s (v b s h) l w i
     forest (through {a} {z} {ks} {ls} {f} {g} m r kf kg) ok c₀ n k b base room x y v p before es tail s =
         let cs = clear-parts d a f z g c₀ in
         let oks = every-split c ks ls ok in
-        let ms = walk-split n ks ls x y v in
+        let ms = walk-split Rel rel-less n ks ls x y v in
         let mf = le-max-left (suc (deep f)) (deep g) in
         let mg = le-max-right (suc (deep f)) (deep g) in
         thin-along a z f g kf r n k b base x y p before es tail s (ms .0) m (omega arith)

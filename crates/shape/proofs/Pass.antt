@@ -46,7 +46,7 @@ module _ (text : List ℕ) (o : Options) (p : ℕ) (before : List Event) (e : Ev
     second-exit i = rw (i, h) refl
 
 -- a definition's inside is jumped over in the second pass
-inside-over : (text : List ℕ) (o : Options) (f : Forest) (p : ℕ) (before es : List Event) → Paired f → NoDefinition f → passFrom false text o true p before (listOf f es) ≡ passFrom false text o true (placed f p) (behind f before) es
+pub inside-over : (text : List ℕ) (o : Options) (f : Forest) (p : ℕ) (before es : List Event) → Paired f → NoDefinition f → passFrom false text o true p before (listOf f es) ≡ passFrom false text o true (placed f p) (behind f before) es
 inside-over text o nil p before es r n = refl
 inside-over text o (element a f z g) p before es (r, i, j) (n, k, l) =
     let m : eqb (z .name) 53 ≡ false = rw (r .2) n in

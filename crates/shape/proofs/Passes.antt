@@ -164,7 +164,7 @@ module _ (text : List ℕ) (o : Options) (Out Inv : ℕ → List Event → List 
       second : {ks : List ℕ} {f : Forest} → Kinds ks f → Takes whole ks → deep f ≤ 64 → (s : State) → Between s → Few (s .kept) → Inv 0 [] (listOf f []) s → Fin (passFrom false text o false 0 [] (listOf f []) ++ []) s
       unfolding wholeFits passFrom
       second {f} kf tk room s h w i =
-          let q = takes-walk 0 (λ x. covers x (contractOf 20 .does)) tk (begun (contractOf 20)) whole-fits in
+          let q = takes-walk Rel rel-less 0 (λ x. covers x (contractOf 20 .does)) tk (begun (contractOf 20)) whole-fits in
           let r : Ready (contractOf 20) s = rw (sym as-quote) (h .ready-for) in
           forest text o Rests false anyKind Inv keeps kf (all-any tk) tt 0 0 s (h .low) (omega arith) (begun (contractOf 20)) (q .0) (q .1) 0 [] [] [] s (rel-begun (contractOf 20) s r) (h .low) w i
           (λ u h₁ l₁ w₁ i₁.

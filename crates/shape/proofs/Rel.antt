@@ -29,7 +29,7 @@ media-same b s e h = (rw e (λ t. t), (rw e (λ t. t), (rw e (λ t. t), (rw e (�
     points [] t = t
     points (m ∷ ms) t = points-more (defined? b) (defined? s) (m .destination) h t
 
-over-later : (x y : Stack) (ls ms ns : List Media) → Over x ls ms → Over y ms ns → Over (stacked x y) ls ns
+pub over-later : (x y : Stack) (ls ms ns : List Media) → Over x ls ms → Over y ms ns → Over (stacked x y) ls ns
 over-later still y ls ms ns h k = rw h at k
 over-later changed still ls ms ns h k = rw (sym k) at h
 over-later changed changed ls ms ns (b, m, r, p, q) (c, n, t, u, v) = (b, n, r, p, let e : r ≡ t = cc in v ∙ ap (λ (l : List Media). n ∷ l) (sym e))
@@ -92,7 +92,7 @@ rel-after x b s u h k =
 moved-as : (m n : Moves) (i j : ℕ) → T (equal m n) → Moved m i j → Moved n i j
 moved-as m n i j t h = let e = eqb→eq (m .up + n .down) (n .up + m .down) t in omega arith
 
-over-as : (x y : Stack) (ls ms : List Media) → T (isAs x y) → Over x ls ms → Over y ls ms
+pub over-as : (x y : Stack) (ls ms : List Media) → T (isAs x y) → Over x ls ms → Over y ls ms
 over-as still still ls ms t h = h
 over-as still changed ls ms t h = absurd t
 over-as still over ls ms t h = absurd t

@@ -80,7 +80,7 @@ module _ (text : List ℕ) (o : Options) (Q : State → Type 0) where
       → (k : ℕ) (s : State) → k + 1 ≤ 64 → Low k s → Ready (contractOf j) s → Few (s .kept)
       → (p p₂ : ℕ) (before before₂ es : List Event) (ts is vs us tail : List Turn)
       → ts ≡ turnAt text o p before a (listOf f (z ∷ es)) ∷ is → vs ≡ turnAt text o p₂ before₂ z es ∷ us → RightAt p before a (listOf f (z ∷ es)) s
-      → ((x y : Shape) (u : State) → Took p before a (listOf f (z ∷ es)) s u → Walk 1 ks x y → Rel x s u → Low (k + 1) u → Few (u .kept)
+      → ((x y : Shape) (u : State) → Took p before a (listOf f (z ∷ es)) s u → Walk Rel rel-less 1 ks x y → Rel x s u → Low (k + 1) u → Few (u .kept)
       → ((v : State) → RightAt p₂ before₂ z es v → Rel y s v → Low (k + 1) v → Few (v .kept) → ((w : State) → Took p₂ before₂ z es v w → Rel (contractOf j .does) s w → Few (w .kept) → Ends (us ++ tail) w) → Ends (vs ++ tail) v)
       → Ends (is ++ tail) u)
       → Ends (ts ++ tail) s
@@ -89,7 +89,7 @@ module _ (text : List ℕ) (o : Options) (Q : State → Type 0) where
       turn 1 k s room l (turnAt text o p before a (listOf f (z ∷ es))) (rowOf (nameOf j) .enter) ts is tail (begun (contractOf j))
       (λ x. good contractOf 1 (holds j) x (λ y. goes 1 (rowOf (nameOf j) .exit) y (λ z. covers z (contractOf j .does)))) s
       (enter-command p before a (listOf f (z ∷ es)) (r .0) ∙ ap (λ (n : ℕ). rowOf n .enter) e) first-turn (kind-fits j l₀) (rel-begun (contractOf j) s ready-for) (low-more k (k + 1) s (omega arith) l) w i
-      (λ u₁ x₁ q₁ h₁ f₁ l₁ w₁. let q = takes-walk 1 (λ y. goes 1 (rowOf (nameOf j) .exit) y (λ z. covers z (contractOf j .does))) tk x₁ f₁ in
+      (λ u₁ x₁ q₁ h₁ f₁ l₁ w₁. let q = takes-walk Rel rel-less 1 (λ y. goes 1 (rowOf (nameOf j) .exit) y (λ z. covers z (contractOf j .does))) tk x₁ f₁ in
       inside x₁ (q .0) u₁ q₁ (q .1) h₁ l₁ w₁
       (λ u₂ i₂ h₂ l₂ w₂ more. turn 1 k s room l (turnAt text o p₂ before₂ z es) (rowOf (nameOf j) .exit) vs us tail (q .0)
       (λ z. covers z (contractOf j .does)) u₂

@@ -1,0 +1,9 @@
+pub mod Stacks
+pub mod Holds
+pub mod Ways
+pub mod Writes
+pub mod Commands
+pub mod Run
+pub mod Forest
+pub mod Level
+pub mod Frame
