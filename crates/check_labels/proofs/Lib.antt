@@ -1,3 +1,4 @@
 pub mod Signatures
 pub mod Steps
+pub mod Uses
 pub mod Laws

@@ -1,41 +1,48 @@
 -- Why signatures are right, and why labels that differ in theirs need not be compared. Assumes nothing.
-use mathlib.Core.Path.{_≡_, refl, sym, ap, _∙_}
-use mathlib.Core.Bool.{Bool, true, false, not, true≢false}
-use mathlib.Core.List.{List, [], _∷_}
-use Prim.Native.Nat.{ℕ, _+_, _-_, _/_, _<_, _≤_}
+use mathlib.Core.Path.{_≡_, sym, ap, _∙_}
+use mathlib.Core.Bool.{Bool, true, false, true≢false}
+use mathlib.Core.List.{List}
+use Prim.Native.Nat.{ℕ, _+_, _*_, _/_, _<_, _≤_}
 use native.Mathlib.Omega.{arith}
-use lib.Dec.{eqb}
-use lib.ListN.{length, getD, take, drop, set, length-set}
+use lib.ListN.{length, getD, set, length-set}
 use lib.Seq.{getD-set-same, getD-set-other}
 use borrow.Author.Count.{below-more}
-use borrow.Author.Tests.{eqb-false, not-true}
 use Rattle.lent.specs.Bytes.{same}
 use Rattle.event.specs.declared.Event.{Event}
 use Rattle.event.specs.Event.{eventAt}
-use Rattle.normalize_identifier.specs.declared.Cursor.{Cursor}
-use Rattle.normalize_identifier.specs.declared.Step.{Step}
-use Rattle.normalize_identifier.specs.declared.Step.the-variants.{Byte, End}
-use Rattle.normalize_identifier.specs.Identity.{atStart, identityOf, leftAt, Spells}
-use Rattle.normalize_identifier.proofs.Laws.{left-start, left-more, left-end, same-iff}
+use Rattle.normalize_identifier.specs.Identity.{identityOf}
+use Rattle.signature.specs.declared.Signature.{Signature}
+use Rattle.signature.specs.Signature.{signatureOf}
+use Rattle.signature.specs.Signed.{Differs}
+use Rattle.signature.proofs.Laws.{differs-none, unequal, two}
 use Rattle.check_labels.specs.declared.Part.{Part}
 use Rattle.check_labels.specs.declared.Part.the-variants.{Slice, Nothing}
 use Rattle.check_labels.specs.Labels.{slice, labelOf}
-use Rattle.check_labels.specs.Signature.{mix, signatureFrom, signatureOf, Right, SignedTo, Signed, Skips}
+use Rattle.check_labels.specs.Signature.{wordsAt, Right, SignedTo, Signed, Skips}
 
--- ---- one label's: the signature from here on is the whole one
+-- ---- two words put
 
-pub signature-start : (label : List ℕ) → signatureFrom 1 (leftAt label atStart) ≡ signatureOf (identityOf label)
-unfolding signatureOf
-signature-start label = rw (left-start label refl)
+abbrev pub put : List ℕ → ℕ → Signature → List ℕ
+put signatures i s = set (set signatures (2 * i) (s .first)) (2 * i + 1) (s .second)
 
-module _ {label : List ℕ} {c : Cursor} {m : Step} (s : ℕ) {w : ℕ} (e : signatureFrom s (leftAt label c) ≡ w) (p : Spells label c m) where
-  pub signature-more : {b t : ℕ} {d : Cursor} → m ≡ Byte b d → t ≡ mix s b → signatureFrom t (leftAt label d) ≡ w
-  unfolding signatureFrom
-  signature-more q r = rw r (rw (left-more p q) at e)
+module _ (signatures : List ℕ) (i : ℕ) (s : Signature) where
+  put-long : length (put signatures i s) ≡ length signatures
+  put-long = simp length-set
 
-  pub signature-end : m ≡ End → s ≡ w
-  unfolding signatureFrom
-  signature-end q = rw (left-end p q) at e
+  put-same : i < length signatures / 2 → wordsAt (put signatures i s) i ≡ s
+  put-same h =
+      let l : 2 * i + 1 < length (set signatures (2 * i) (s .first)) = simp length-set (omega arith) in
+      rw (getD-set-same (set signatures (2 * i) (s .first)) (2 * i + 1) (s .second) 0 l, getD-set-other (set signatures (2 * i) (s .first)) (2 * i + 1) (2 * i) (s .second) 0 (λ z. omega arith), getD-set-same signatures (2 * i) (s .first) 0 (omega arith))
+
+  put-other : (k : ℕ) → k < i → wordsAt (put signatures i s) k ≡ wordsAt signatures k
+  put-other k h =
+      let t = set signatures (2 * i) (s .first) in
+      rw (
+        getD-set-other t (2 * i + 1) (2 * k) (s .second) 0 (λ z. omega arith),
+        getD-set-other t (2 * i + 1) (2 * k + 1) (s .second) 0 (λ z. omega arith),
+        getD-set-other signatures (2 * i) (2 * k) (s .first) 0 (λ z. omega arith),
+        getD-set-other signatures (2 * i) (2 * k + 1) (s .first) 0 (λ z. omega arith),
+      )
 
 -- ---- all of a list's, one by one
 
@@ -50,20 +57,21 @@ module _ {text events signatures : List ℕ} {n i : ℕ} (s : SignedTo i text ev
             (λ from to l z. let y : Slice from to ≡ Nothing = sym z ∙ ap (labelOf n) (sym g) ∙ sym q ∙ h in let c : _≡_ {A = ℕ} 0 1 = cc in absurd (omega arith));
       }
 
-  pub signed-put : {v : Event} {p : Part} {from to r : ℕ} {label : List ℕ} → i < length signatures → v ≡ eventAt events i → p ≡ labelOf n v → p ≡ Slice from to
-      → label ≡ slice text from to → r ≡ signatureOf (identityOf label) → SignedTo (i + 1) text events n (set signatures i r)
+  pub signed-put : {v : Event} {p : Part} {from to : ℕ} {r : Signature} {label : List ℕ} → i < length signatures / 2 → v ≡ eventAt events i → p ≡ labelOf n v → p ≡ Slice from to
+      → label ≡ slice text from to → r ≡ signatureOf (identityOf label) → SignedTo (i + 1) text events n (put signatures i r)
   signed-put {from = from} {to = to} {r = r} h g q y e m =
+      let w = put-long signatures i r in
       record {
-        right = below-more (Right text events n (set signatures i r)) i
-            (λ k j a b l z. let o : k ≡ i → ⊥ = λ x. omega arith in rw (getD-set-other signatures i k r 0 o) (s .right k j a b (rw length-set at l) z))
+        right = below-more (Right text events n (put signatures i r)) i
+            (λ k j a b l z. put-other signatures i r k j ∙ s .right k j a b (omega arith) z)
             (λ a b l z.
             let u : Slice from to ≡ Slice a b = sym y ∙ q ∙ ap (labelOf n) g ∙ z in
             let f : from ≡ a = cc in
             let t : to ≡ b = cc in
-            rw (getD-set-same signatures i r 0 h, ← f, ← t, ← e) m);
+            put-same signatures i r h ∙ rw (← f, ← t, ← e) m);
       }
 
-  pub signed-full : length signatures ≤ i → Signed text events n signatures
+  pub signed-full : length signatures / 2 ≤ i → Signed text events n signatures
   signed-full h = record { right = λ k l a b m. s .right k (omega arith) a b m }
 
   pub signed-end : {count : ℕ} → count ≡ length events / 20 → count ≤ i → Signed text events n signatures
@@ -71,22 +79,13 @@ module _ {text events signatures : List ℕ} {n i : ℕ} (s : SignedTo i text ev
 
 -- ---- labels that are passed over
 
-is-false : (t : Bool) → (t ≡ true → ⊥) → t ≡ false
-is-false true h = absurd (h refl)
-is-false false h = refl
-
-pub skips-none : (signatures : List ℕ) (i s : ℕ) → Skips signatures i s false
-skips-none signatures i s = record { other = λ p. absurd (true≢false (sym p)) }
-
-pub skips-other : (signatures : List ℕ) (i s : ℕ) → i < length signatures → Skips signatures i s (not (eqb (getD signatures i 0) s))
-skips-other signatures i s h = record { other = λ p. (h, eqb-false (getD signatures i 0) s (not-true (eqb (getD signatures i 0) s) p)) }
+pub skips-none : (signatures : List ℕ) (i : ℕ) (s : Signature) → Skips signatures i s false
+skips-none signatures i s = record { inside = λ p. absurd (true≢false (sym p)); differs = differs-none _ _ s }
 
 -- so they are other labels
-pub skipped : {text events signatures : List ℕ} (label : List ℕ) {n i s from to : ℕ} {r : Bool} → Signed text events n signatures → i < length events / 20
+pub skipped : {text events signatures : List ℕ} (label : List ℕ) {n i from to : ℕ} {s : Signature} {r : Bool} → Signed text events n signatures → i < length events / 20
     → labelOf n (eventAt events i) ≡ Slice from to → Skips signatures i s r → r ≡ true → s ≡ signatureOf (identityOf label)
     → same (identityOf label) (identityOf (slice text from to)) ≡ false
 skipped {text} label {i = i} {from = from} {to = to} a h p k j m =
-    let o = k .other j in
-    let l = slice text from to in
-    is-false (same (identityOf label) (identityOf l))
-    (λ e. o .1 (a .right i h from to (o .0) p ∙ ap signatureOf (sym (same-iff (identityOf label) (identityOf l) .0 e)) ∙ sym m))
+    let l = identityOf (slice text from to) in
+    unequal (identityOf label) l (λ e. two l (identityOf label) (k .differs) j m (a .right i h from to (k .inside j) p) (sym e))

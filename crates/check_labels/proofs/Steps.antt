@@ -5,14 +5,15 @@ use mathlib.Core.List.{List, [], _∷_}
 use Prim.Native.Nat.{ℕ, _+_, _-_, _/_, _<_, _≤_}
 use native.Mathlib.Omega.{arith}
 use lib.Dec.{eqb, leb}
-use lib.ListN.{length, take, drop, drop-of-length-le, length-drop}
-use lib.Seq.{take-all, take-nil}
+use lib.ListN.{length, drop}
 use borrow.Author.Tests.{le-leb, lt-leb, eq-eqb, ne-eqb}
 use Rattle.lent.specs.Bytes.{oneOf, same, listed}
 use Rattle.event.specs.declared.Event.{Event}
 use Rattle.event.specs.Event.{isEnter, eventAt, eventsOf}
 use Rattle.event.proofs.Laws.{events-next, events-end}
 use Rattle.normalize_identifier.specs.Identity.{identityOf}
+use Rattle.signature.specs.declared.Signature.{Signature}
+use Rattle.signature.specs.Signature.{signatureOf}
 use Rattle.check_labels.specs.declared.Part.{Part}
 use Rattle.check_labels.specs.declared.Part.the-variants.{Slice, Nothing}
 use Rattle.check_labels.specs.declared.Turn.{Turn}
@@ -20,23 +21,8 @@ use Rattle.check_labels.specs.declared.Turn.the-variants.{On, Own, Out}
 use Rattle.check_labels.specs.declared.Labels.{Labels}
 use Rattle.check_labels.specs.declared.Labels.the-variants.{Yes, At}
 use Rattle.check_labels.specs.Labels.{slice, labelOf, identities, turnOf, ownPart, soughtOf, isDefined, labelHolds, undefinedFrom, undefinedOf}
-use Rattle.check_labels.specs.Signature.{signatureOf, Signed, Skips}
+use Rattle.check_labels.specs.Signature.{Signed, Skips}
 use Rattle.check_labels.proofs.Signatures.{skipped}
-
--- ---- a slice, by how it lies in the text
-
-module _ (text : List ℕ) (from to : ℕ) where
-  pub slice-crossed : to < from → take 0 (drop 0 text) ≡ slice text from to
-  slice-crossed h = let e : to - from ≡ 0 = omega arith in rw e
-
-  pub slice-behind : length text < from → take 0 (drop 0 text) ≡ slice text from to
-  slice-behind h = let l : length text ≤ from = omega arith in rw (drop-of-length-le text l) (sym (take-nil (to - from)))
-
-  pub slice-cut : length text < to → take (length text - from) (drop from text) ≡ slice text from to
-  slice-cut h =
-      let l : length (drop from text) ≤ length text - from = simp length-drop (omega arith) in
-      let m : length (drop from text) ≤ to - from = simp length-drop (omega arith) in
-      take-all (length text - from) (drop from text) l ∙ sym (take-all (to - from) (drop from text) m)
 
 -- ---- an element's own part
 
@@ -159,7 +145,7 @@ module _ (text b : List ℕ) (n : ℕ) (s : List ℕ) {i count : ℕ} {w : Bool}
 
 pub listed-skipped : (text b : List ℕ) (n : ℕ) (label : List ℕ) {i count : ℕ} {w : Bool} → count ≡ length b / 20 → i < count
     → listed (identities n text (drop i (eventsOf b))) (identityOf label) ≡ w → {v : Event} {p : Part} → v ≡ eventAt b i → p ≡ labelOf n v → {from to : ℕ} → p ≡ Slice from to
-    → {signatures : List ℕ} {s : ℕ} {t : Bool} → Signed text b n signatures → Skips signatures i s t → t ≡ true → s ≡ signatureOf (identityOf label)
+    → {signatures : List ℕ} {s : Signature} {t : Bool} → Signed text b n signatures → Skips signatures i s t → t ≡ true → s ≡ signatureOf (identityOf label)
     → listed (identities n text (drop (i + 1) (eventsOf b))) (identityOf label) ≡ w
 listed-skipped text b n label {i} q h e g r m a j t k =
     more text b n (identityOf label) q h e g r m (skipped label a (omega arith) (labelled text b n (identityOf label) q h e g r ∙ m) j t k)

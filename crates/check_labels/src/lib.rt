@@ -2,17 +2,17 @@
 ghost use mathlib.Core.Path.{_≡_};
 ghost use mathlib.Core.Bool.{_&&_};
 ghost use mathlib.Core.List.{[], _∷_};
-ghost use Prim.Native.Nat.{_+_, _-_, _/_, _<_};
-ghost use lib.ListN.{length, take, drop};
+ghost use Prim.Native.Nat.{_+_, _/_, _<_};
+ghost use lib.ListN.{length, drop};
 ghost use Rattle.lent.specs.Bytes.{listed, oneOf};
 ghost use Rattle.event.specs.Event.{eventsOf, eventAt};
 ghost use Rattle.normalize_identifier.specs.Identity.{identityOf};
 ghost use Rattle.check_labels.specs.Labels.{labelOf, turnOf, ownPart, soughtOf, identities, isDefined, labelHolds, undefinedOf};
-ghost use Rattle.check_labels.specs.Signature.{mix, signatureOf, Signed, Skips};
+ghost use Rattle.check_labels.specs.Signature.{Signed, Skips};
+ghost use Rattle.check_labels.specs.Uses.{IsUse, HasUse};
 use event::Event;
 use event::EventIndex;
-use normalize_identifier::Cursor;
-use normalize_identifier::Step;
+use signature::Signature;
 
 pub enum Labels {
     Yes,
@@ -32,47 +32,6 @@ pub enum Turn {
     Out,
 }
 
-// The text from a place to another, as much of it as there is.
-fn slice(text: &[u8], from: usize, to: usize) -> &[u8]
-    ensures { λ r. ⌜ now r ≡ take (to - from) (drop from (now (text .entry))) ⌝ }
-{
-    if to < from {
-        return &text[0..0];
-    }
-    if text.len() < from {
-        return &text[0..0];
-    }
-    if text.len() < to {
-        return &text[from..];
-    }
-    &text[from..to]
-}
-
-// One byte more of a signature. The modulus is a prime: under a power of two, words of one signature are easily made.
-fn mixed(s: u64, b: u8) -> u64
-    ensures { λ r. ⌜ r ≡ mix s b ⌝ }
-{
-    s % 0xFF_FFFF_FFFF_FFFB * 131 + b as u64
-}
-
-// A number that labels of one identity share, so that two that differ in it need not be compared.
-fn signature(label: &[u8]) -> u64
-    ensures { λ r. ⌜ r ≡ signatureOf (identityOf (now (label .entry))) ⌝ }
-{
-    let mut c = Cursor {
-        at: 0,
-        begun: false,
-    };
-    let mut s: u64 = 1;
-    loop {
-        let Step::Byte(b, d) = normalize_identifier::next(label, c) else {
-            return s;
-        };
-        s = mixed(s, b);
-        c = d;
-    }
-}
-
 // The slice of an event that is the exit of an n.
 fn label_of(e: Event, n: u8) -> Part
     ensures { λ r. ⌜ r ≡ labelOf n e ⌝ }
@@ -86,41 +45,43 @@ fn label_of(e: Event, n: u8) -> Part
     Part::Slice(e.from.0, e.to.0)
 }
 
-// The signatures of the definitions' labels, each at its event's index, as far as there is room.
-fn sign(text: &[u8], events: &[u8], n: u8, signatures: &mut [u64])
+// The signatures of the definitions' labels, two words at twice an event's index, as far as there is room.
+fn sign(text: &[u8], events: &[u8], n: u8, signatures: &mut [usize])
     ensures { λ r. ⌜ Signed (now (text .entry)) (now (events .entry)) n (now (signatures .exit)) ⌝ }
 {
     let count = event::count(events);
     let mut i = 0;
     while i < count {
-        if signatures.len() <= i {
+        if signatures.len() / 2 <= i {
             return;
         }
         let Part::Slice(from, to) = label_of(Event::read(events, EventIndex(i)), n) else {
             i += 1;
             continue;
         };
-        signatures[i] = signature(slice(text, from, to));
+        let s = signature::sign(signature::part(text, from, to));
+        signatures[2 * i] = s.first;
+        signatures[2 * i + 1] = s.second;
         i += 1;
     }
 }
 
 // Whether the label at an index has another signature, so that it is another label.
-fn skips(signatures: &[u64], i: usize, s: u64) -> bool
+fn skips(signatures: &[usize], i: usize, s: Signature) -> bool
     ensures { λ r. ⌜ Skips (now (signatures .entry)) i s r ⌝ }
 {
-    if signatures.len() <= i {
+    if signatures.len() / 2 <= i {
         return false;
     }
-    signatures[i] != s
+    signature::differs(signatures[2 * i], signatures[2 * i + 1], s)
 }
 
 // Whether the label of a definition (n is 54) or of a footnote definition (65) has the identity of `label`.
-fn has_label(text: &[u8], events: &[u8], n: u8, signatures: &[u64], label: &[u8]) -> bool
+fn has_label(text: &[u8], events: &[u8], n: u8, signatures: &[usize], label: &[u8]) -> bool
     requires { ⌜ Signed (now text) (now events) n (now signatures) ⌝ }
     ensures { λ r. ⌜ r ≡ listed (identities n (now (text .entry)) (eventsOf (now (events .entry)))) (identityOf (now (label .entry))) ⌝ }
 {
-    let s = signature(label);
+    let s = signature::sign(label);
     let count = event::count(events);
     let mut i = 0;
     while i < count {
@@ -132,7 +93,7 @@ fn has_label(text: &[u8], events: &[u8], n: u8, signatures: &[u64], label: &[u8]
             i += 1;
             continue;
         }
-        if normalize_identifier::same_identity(label, slice(text, from, to)) {
+        if normalize_identifier::same_identity(label, signature::part(text, from, to)) {
             return true;
         }
         i += 1;
@@ -203,12 +164,18 @@ fn sought(events: &[u8], from: usize) -> Part
     Part::Slice(a, b)
 }
 
-fn is_defined(text: &[u8], events: &[u8], n: u8, signatures: &[u64], p: Part) -> bool
+fn is_defined(text: &[u8], events: &[u8], n: u8, signatures: &[usize], p: Part) -> bool
     requires { ⌜ Signed (now text) (now events) n (now signatures) ⌝ }
     ensures { λ r. ⌜ r ≡ isDefined (now (text .entry)) (identities n (now (text .entry)) (eventsOf (now (events .entry)))) p ⌝ }
 {
     match p {
-        Part::Slice(from, to) => has_label(text, events, n, signatures, slice(text, from, to)),
+        Part::Slice(from, to) => has_label(
+            text,
+            events,
+            n,
+            signatures,
+            signature::part(text, from, to),
+        ),
         Part::Nothing => true,
     }
 }
@@ -224,7 +191,7 @@ fn is_medium(name: u8) -> bool
 }
 
 // Whether the event at an index is no undefined link, image or call.
-fn holds(text: &[u8], events: &[u8], definitions: &[u64], footnotes: &[u64], i: usize) -> bool
+fn holds(text: &[u8], events: &[u8], definitions: &[usize], footnotes: &[usize], i: usize) -> bool
     requires { ⌜ (i < length (now events) / 20) × (Signed (now text) (now events) 54 (now definitions)) × (Signed (now text) (now events) 65 (now footnotes)) ⌝ }
     ensures { λ r. ⌜ r ≡ labelHolds (now (text .entry)) (eventsOf (now (events .entry))) (eventAt (now (events .entry)) i) (drop (i + 1) (eventsOf (now (events .entry)))) ⌝ }
 {
@@ -254,7 +221,7 @@ fn holds(text: &[u8], events: &[u8], definitions: &[u64], footnotes: &[u64], i: 
 }
 
 // The first enter that does not hold.
-fn first(text: &[u8], events: &[u8], definitions: &[u64], footnotes: &[u64]) -> Labels
+fn first(text: &[u8], events: &[u8], definitions: &[usize], footnotes: &[usize]) -> Labels
     requires { ⌜ (Signed (now text) (now events) 54 (now definitions)) × (Signed (now text) (now events) 65 (now footnotes)) ⌝ }
     ensures { λ r. ⌜ r ≡ undefinedOf (now (text .entry)) (now (events .entry)) ⌝ }
 {
@@ -270,23 +237,88 @@ fn first(text: &[u8], events: &[u8], definitions: &[u64], footnotes: &[u64]) -> 
     Labels::Yes
 }
 
-// Whether each link, image and call has its definition; else the first, by its enter, that has none.
-pub fn check_labels(text: &[u8], events: &[u8]) -> Labels
+// The same, with room for the signatures: two words for each event.
+fn first_signed(
+    text: &[u8],
+    events: &[u8],
+    definitions: &mut [usize],
+    footnotes: &mut [usize],
+) -> Labels
     ensures { λ r. ⌜ r ≡ undefinedOf (now (text .entry)) (now (events .entry)) ⌝ }
 {
-    let mut definitions = [0u64; 3200];
-    let mut footnotes = [0u64; 3200];
-    sign(
-        text,
-        events,
-        Event::DEFINITION_LABEL_STRING,
-        &mut definitions,
-    );
+    sign(text, events, Event::DEFINITION_LABEL_STRING, definitions);
     sign(
         text,
         events,
         Event::GFM_FOOTNOTE_DEFINITION_LABEL_STRING,
-        &mut footnotes,
+        footnotes,
     );
-    first(text, events, &definitions, &footnotes)
+    first(text, events, definitions, footnotes)
+}
+
+fn check_many(text: &[u8], events: &[u8]) -> Labels
+    ensures { λ r. ⌜ r ≡ undefinedOf (now (text .entry)) (now (events .entry)) ⌝ }
+{
+    let mut definitions = [0usize; 6400];
+    let mut footnotes = [0usize; 6400];
+    first_signed(text, events, &mut definitions, &mut footnotes)
+}
+
+fn check_few(text: &[u8], events: &[u8]) -> Labels
+    ensures { λ r. ⌜ r ≡ undefinedOf (now (text .entry)) (now (events .entry)) ⌝ }
+{
+    let mut definitions = [0usize; 512];
+    let mut footnotes = [0usize; 512];
+    first_signed(text, events, &mut definitions, &mut footnotes)
+}
+
+// A short list gets little room: clearing it takes time.
+fn check_uses(text: &[u8], events: &[u8]) -> Labels
+    ensures { λ r. ⌜ r ≡ undefinedOf (now (text .entry)) (now (events .entry)) ⌝ }
+{
+    if event::count(events) <= 256 {
+        return check_few(text, events);
+    }
+    check_many(text, events)
+}
+
+// Whether the event at an index is the enter of a link, an image or a call.
+fn is_use(events: &[u8], i: usize) -> bool
+    requires { ⌜ i < length (now events) / 20 ⌝ }
+    ensures { λ r. ⌜ IsUse (now (events .entry)) i r ⌝ }
+{
+    let kind = event::kind_at(events, EventIndex(i));
+    if kind != Event::ENTER {
+        return false;
+    }
+    let name = event::name_at(events, EventIndex(i));
+    if is_medium(name) {
+        return true;
+    }
+    name == Event::GFM_FOOTNOTE_CALL
+}
+
+// Whether there is a link, an image or a call: without one no label is looked for.
+fn has_use(events: &[u8]) -> bool
+    ensures { λ r. ⌜ HasUse (now (events .entry)) r ⌝ }
+{
+    let count = event::count(events);
+    let mut i = 0;
+    while i < count {
+        if is_use(events, i) {
+            return true;
+        }
+        i += 1;
+    }
+    false
+}
+
+// Whether each link, image and call has its definition; else the first, by its enter, that has none.
+pub fn check_labels(text: &[u8], events: &[u8]) -> Labels
+    ensures { λ r. ⌜ r ≡ undefinedOf (now (text .entry)) (now (events .entry)) ⌝ }
+{
+    if has_use(events) {
+        return check_uses(text, events);
+    }
+    Labels::Yes
 }

@@ -40,17 +40,17 @@ module _ {lo hi : ℕ} {text work out starts : List ℕ} {o : Options} {e : Even
         acting n p q (λ a. record { held = a .roomy .held; kept = a .kept }) (λ t v. record { reads = record { text-is = v .text-is }; chooses = record { options-is = v .options-are } })
         (k .on-media (world work out starts (tables definitions footnotes calls labels)) refl refl refl)
 
-    pub by-definitions : {work′ definitions′ : List ℕ} → OnDefinitions Roomy d b work starts definitions r work′ definitions′
+    pub by-definitions : {work′ definitions′ : List ℕ} → OnDefinitions Roomy d b text work starts definitions r work′ definitions′
         → Acts false lo hi text (Shows text o e) e b (world work out starts (tables definitions footnotes calls labels)) r (world work′ out starts (tables definitions′ footnotes calls labels))
-    by-definitions k = acting n p q (λ a. a .roomy) (λ t v. record { text-is = v .text-is }) (k .on-definitions text (world work out starts (tables definitions footnotes calls labels)) refl refl refl)
+    by-definitions k = acting n p q (λ a. a .roomy) (λ t v. record { text-is = v .text-is }) (k .on-definitions (world work out starts (tables definitions footnotes calls labels)) refl refl refl)
 
     pub by-calls : {work′ out′ calls′ : List ℕ} → OnCalls Held d b text work out calls r work′ out′ calls′
         → Acts false lo hi text (Shows text o e) e b (world work out starts (tables definitions footnotes calls labels)) r (world work′ out′ starts (tables definitions footnotes calls′ labels))
     by-calls k = acting n p q (λ a. a .roomy .held) (λ t v. record { text-is = v .text-is }) (k .on-calls (world work out starts (tables definitions footnotes calls labels)) refl refl refl)
 
-    pub by-footnotes : {work′ footnotes′ : List ℕ} → OnFootnotes Roomy d b work starts footnotes labels r work′ footnotes′
+    pub by-footnotes : {work′ footnotes′ : List ℕ} → OnFootnotes Roomy d b text work starts footnotes labels r work′ footnotes′
         → Acts false lo hi text (Shows text o e) e b (world work out starts (tables definitions footnotes calls labels)) r (world work′ out starts (tables definitions footnotes′ calls labels))
-    by-footnotes k = acting n p q (λ a. a .roomy) (λ t v. record { text-is = v .text-is }) (k .on-footnotes text (world work out starts (tables definitions footnotes calls labels)) refl refl refl refl)
+    by-footnotes k = acting n p q (λ a. a .roomy) (λ t v. record { text-is = v .text-is }) (k .on-footnotes (world work out starts (tables definitions footnotes calls labels)) refl refl refl refl)
 
     pub by-labels : {labels′ : List ℕ} → OnLabels Always (IsEvent e) d b labels r labels′
         → Acts false lo hi text (Shows text o e) e b (world work out starts (tables definitions footnotes calls labels)) r (world work out starts (tables definitions footnotes calls labels′))

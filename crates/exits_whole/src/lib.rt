@@ -64,7 +64,7 @@ fn exit_media(
         }
         Event::RESOURCE_TITLE_STRING => on_link::on_exit_resource_title_string(b, work, starts),
         Event::REFERENCE_STRING => on_link::on_exit_reference_string(b, e, starts),
-        Event::DEFINITION => on_definition::on_exit_definition(b, work, starts, definitions),
+        Event::DEFINITION => on_definition::on_exit_definition(b, text, work, starts, definitions),
         Event::DEFINITION_LABEL_STRING => on_link::on_exit_definition_label_string(b, e, starts),
         Event::DEFINITION_DESTINATION_STRING => {
             on_link::on_exit_definition_destination_string(b, work, starts)
@@ -94,7 +94,7 @@ fn exit_footnote(
             on_footnote::on_exit_gfm_footnote_call(b, text, work, out, calls)
         }
         Event::GFM_FOOTNOTE_DEFINITION => {
-            on_footnote::on_exit_gfm_footnote_definition(b, work, starts, footnotes, labels)
+            on_footnote::on_exit_gfm_footnote_definition(b, text, work, starts, footnotes, labels)
         }
         Event::GFM_FOOTNOTE_DEFINITION_LABEL_STRING => {
             on_footnote::on_exit_gfm_footnote_definition_label_string(b, e, labels)

@@ -2,19 +2,23 @@
 use mathlib.Core.Path.{_≡_, refl, ap, _∙_}
 use mathlib.Core.Bool.{Bool, true, false, _&&_}
 use mathlib.Core.List.{List, [], _∷_, _++_}
-use Prim.Native.Nat.{ℕ, _+_, _-_, _<_}
+use Prim.Native.Nat.{ℕ, suc, _+_, _-_, _<_}
 use native.Mathlib.Omega.{arith}
 use native.Mathlib.Numerals.{add-one}
 use native.Mathlib.Decide.{decLt}
 use borrow.Author.Tests.{leb-true}
 use lib.Dec.{leb}
-use lib.ListN.{length, take, drop, set, getD, length-set, length-take}
-use lib.Seq.{take-suc-set, getD-set-same, getD-set-other}
+use lib.ListN.{length, take, drop, set, getD, length-set, length-take, length-append, List·getD-append}
+use lib.Seq.{take-suc-set, getD-set-same, getD-set-other, getD-append-seam}
 use Rattle.lent.specs.Bytes.{if_then_else_}
 use Rattle.lent.proofs.Laws.{and-left, and-right}
 use Rattle.utf8.specs.Utf8.{isUtf8}
+use Rattle.normalize_identifier.specs.Identity.{identityOf}
 use Rattle.normalize_identifier.specs.Search as Search
 use Rattle.normalize_identifier.specs.Search.{parts, labelsOf}
+use Rattle.signature.specs.declared.Signature.{Signature}
+use Rattle.signature.specs.Signature.{signatureOf}
+use Rattle.signature.specs.Signed.{Signs}
 use Rattle.machine.specs.Outcome.{Outcome, stop, go, _>>=_}
 use Rattle.machine.specs.State.{Span, Definition, Footnote, Call}
 use Rattle.machine.specs.Turn.{sliceOf, asStr, strOf}
@@ -97,7 +101,34 @@ module _ {text from to label : List ℕ} {count a b : ℕ} {labels : List (List 
   pub labels-more : Labels text (set from count a) (set to count b) (count + 1) (labels ++ (label ∷ []))
   labels-more = record { places = labels-more-places; are = labels-more-are }
 
+-- ---- one more signature
+
+module _ {firsts seconds : List ℕ} {labels : List (List ℕ)} {count : ℕ} (label : List ℕ) (s : Signature) where
+  pub signs-more : count ≡ length labels → count < length firsts → count < length seconds → s ≡ signatureOf (identityOf label) → Signs firsts seconds labels
+      → Signs (set firsts count (s .first)) (set seconds count (s .second)) (labels ++ (label ∷ []))
+  signs-more m h i e r = record {
+    signs = λ k j. elim (decLt k count) [
+      | yes q ↦ (let l : k < length labels = omega arith in
+          rw (getD-set-other firsts count k (s .first) 0 (λ z. omega arith), getD-set-other seconds count k (s .second) 0 (λ z. omega arith), List·getD-append labels (label ∷ []) [] k l) (r .signs k l))
+      | no q ↦ (let x = length-append labels (label ∷ []) in
+          let z : k ≡ length labels = omega arith in
+          rw (z, m, getD-set-same firsts (length labels) (s .first) 0 (omega arith), getD-set-same seconds (length labels) (s .second) 0 (omega arith), getD-append-seam labels label [] []) e)
+    ];
+  }
+
 -- ---- of each list that has labels
+
+pub definition-labels-long : (ds : List Definition) → length (definitionLabels ds) ≡ length ds
+definition-labels-long [] = refl
+definition-labels-long (d ∷ ds) = ap suc (definition-labels-long ds)
+
+pub footnote-labels-long : (fs : List Footnote) → length (footnoteLabels fs) ≡ length fs
+footnote-labels-long [] = refl
+footnote-labels-long (f ∷ fs) = ap suc (footnote-labels-long fs)
+
+pub call-labels-long : (cs : List Call) → length (callLabels cs) ≡ length cs
+call-labels-long [] = refl
+call-labels-long (c ∷ cs) = ap suc (call-labels-long cs)
 
 pub definition-labels-more : (ds : List Definition) (d : Definition) → definitionLabels (ds ++ (d ∷ [])) ≡ definitionLabels ds ++ (d .label ∷ [])
 definition-labels-more [] d = refl

@@ -2,7 +2,6 @@ pub mod Rows
 pub mod Lists
 pub mod Labels
 pub mod Pieces
-pub mod Seeks
 pub mod Opens
 pub mod Finds
 pub mod Calls

@@ -14,11 +14,11 @@ use Rattle.normalize_identifier.specs.declared.Found.{Found}
 use Rattle.normalize_identifier.specs.declared.Found.the-variants.{At, Nothing}
 use Rattle.normalize_identifier.specs.Identity.{identityOf}
 use Rattle.normalize_identifier.specs.Search.{firstFrom, firstSame}
-use Rattle.machine.specs.State.{Definition, Call}
-use Rattle.machine.specs.Media.{definitionLabels}
+use Rattle.machine.specs.State.{Call}
 use Rattle.machine.specs.Footnote.{callLabels, callIndex, atOr, countAt, timesAt}
 use Rattle.bounded.specs.Within.{countable}
 use Rattle.kept.proofs.Lists.{long-more}
+use Rattle.kept.proofs.Labels.{call-labels-long}
 use Rattle.kept.proofs.Calls.{firstCall, count-new, count-long}
 
 -- ---- what is found is there
@@ -35,14 +35,6 @@ found-from j (l ∷ ls) label k p = on (same (identityOf l) (identityOf label)) 
 pub found-low : (ls : List (List ℕ)) (label : List ℕ) (k : ℕ) → firstSame ls label ≡ At k → k < length ls
 unfolding firstSame
 found-low ls label k p = let x = found-from 0 ls label k p in omega arith
-
-pub definition-labels-long : (ds : List Definition) → length (definitionLabels ds) ≡ length ds
-definition-labels-long [] = refl
-definition-labels-long (d ∷ ds) = ap suc (definition-labels-long ds)
-
-pub call-labels-long : (cs : List Call) → length (callLabels cs) ≡ length cs
-call-labels-long [] = refl
-call-labels-long (c ∷ cs) = ap suc (call-labels-long cs)
 
 pub call-index-low : (label : List ℕ) (cs : List Call) → callIndex label cs ≤ length cs
 call-index-low label cs = on (firstSame (callLabels cs) label) refl

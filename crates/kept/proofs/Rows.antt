@@ -4,8 +4,8 @@ use mathlib.Core.List.{List, [], _∷_}
 use Prim.Native.Nat.{ℕ, zero, suc, _+_, _-_, _*_, _≤_, _<_}
 use native.Mathlib.Nat.{mul-le-mul-right, suc-mul}
 use native.Mathlib.Omega.{arith}
-use lib.ListN.{length, take, drop, set, getD, length-set, length-take, length-drop, List·getD-eq-default}
-use lib.Seq.{getD-set-same, getD-set-other, getD-take, getD-drop, drop-set-lt, drop-set-add, take-set-le, take-set-lt}
+use lib.ListN.{length, take, drop, set, getD, length-set, length-take, length-drop, drop-of-length-le, List·getD-eq-default}
+use lib.Seq.{getD-set-same, getD-set-other, getD-take, getD-drop, drop-set-lt, drop-set-add, take-set-le, take-set-lt, take-all, take-nil}
 use Rattle.kept.specs.Kept.{column}
 use Rattle.kept.specs.Private.{setRow}
 
@@ -51,6 +51,21 @@ module _ (table : List ℕ) (start n i : ℕ) where
 
   pub word-in : i < n → getD table (start + i) 0 ≡ getD (take n (drop start table)) i 0
   word-in h = sym (getD-take n (drop start table) i 0 h ∙ getD-drop start table i 0)
+
+-- ---- a column, by how it lies in the table
+
+module _ (table : List ℕ) (start n : ℕ) where
+  pub column-behind : length table < start → take 0 (drop 0 table) ≡ take n (drop start table)
+  column-behind h = let l : length table ≤ start = omega arith in rw (drop-of-length-le table l) (sym (take-nil n))
+
+  pub column-cut : length table - start < n → take (length table - start) (drop start table) ≡ take n (drop start table)
+  column-cut h =
+      let l : length (drop start table) ≤ length table - start = simp length-drop (omega arith) in
+      let m : length (drop start table) ≤ n = simp length-drop (omega arith) in
+      take-all (length table - start) (drop start table) l ∙ sym (take-all n (drop start table) m)
+
+  pub column-all : take (start + n - start) (drop start table) ≡ take n (drop start table)
+  column-all = let e : start + n - start ≡ n = omega arith in rw e
 
 -- ---- a row
 

@@ -6,6 +6,7 @@ use native.Mathlib.Omega.{arith}
 use lib.ListN.{take, drop}
 use lib.Seq.{drop-drop}
 use Rattle.normalize_identifier.specs.Search.{parts, labelsOf}
+use Rattle.signature.specs.Signed.{Signs}
 use Rattle.regions.specs.Regions.{regionAt}
 use Rattle.machine.specs.declared.Ending.{Ending}
 use Rattle.machine.specs.State as Machine
@@ -25,14 +26,17 @@ no-labels text from to = record {
   are = refl;
 }
 
+no-signs : (firsts seconds : List ℕ) → Signs firsts seconds []
+no-signs firsts seconds = record { signs = λ k h. absurd (omega arith) }
+
 pub keeps-start : (ending : Ending) (text region : List ℕ) (t : Tables) → Long t → Keeps nothing text region t (start ending)
 unfolding start kept
 keeps-start ending text region t h = record {
   long = h;
   end = refl;
-  definitions = λ m. record { rows = refl; labels = no-labels text _ _; each = λ k d p. absurd (let x = index-low [] k d p in omega arith) };
-  footnotes = λ m. record { rows = refl; labels = no-labels text _ _; each = λ k f p. absurd (let x = index-low [] k f p in omega arith) };
-  calls = record { rows = refl; labels = no-labels text _ _; each = λ k c p. absurd (let x = index-low [] k c p in omega arith) };
+  definitions = λ m. record { rows = refl; labels = no-labels text _ _; signed = no-signs _ _; each = λ k d p. absurd (let x = index-low [] k d p in omega arith) };
+  footnotes = λ m. record { rows = refl; labels = no-labels text _ _; signed = no-signs _ _; each = λ k f p. absurd (let x = index-low [] k f p in omega arith) };
+  calls = record { rows = refl; labels = no-labels text _ _; signed = no-signs _ _; each = λ k c p. absurd (let x = index-low [] k c p in omega arith) };
   labels = record { rows = refl; few = omega arith; each = tt };
 }
 

@@ -36,8 +36,8 @@ pub record FindsFootnote (k : Kept) (text : List ℕ) (from to : ℕ) (footnotes
 
 -- ---- calls
 
-pub record CountsCall (k : Kept) (index from to : ℕ) (calls : List ℕ) (r : Kept) (calls′ : List ℕ) : Type 0 where
-  pub counts : {text region d f l label : List ℕ} {s : State} → Keeps k text region (tables d f calls l) s → LabelIs text from to label
+pub record CountsCall (k : Kept) (index : ℕ) (text : List ℕ) (from to : ℕ) (calls : List ℕ) (r : Kept) (calls′ : List ℕ) : Type 0 where
+  pub counts : {region d f l label : List ℕ} {s : State} → Keeps k text region (tables d f calls l) s → LabelIs text from to label
       → index ≤ length (s .kept .calls) → index < 64 → timesAt index (s .kept .calls) < 0x1_0000_0000
       → Keeps r text region (tables d f calls′ l) (setCalls (countAt index label (s .kept .calls)) s)
 
@@ -51,12 +51,12 @@ pub record KeptIn (r : Kept) (text work work′ definitions footnotes calls labe
   pub keeps : Keeps r text (regionAt 32768 work′) (tables definitions footnotes calls labels) s
   pub before : take 32768 work′ ≡ take 32768 work
 
-pub record KeepsFootnote (k : Kept) (from n : ℕ) (work footnotes labels : List ℕ) (r : Kept) (work′ footnotes′ : List ℕ) : Type 0 where
-  pub keeps : {text d c body label : List ℕ} {p : Span} {ps : List Span} {s : State} → 49152 ≤ length work → Keeps k text (regionAt 32768 work) (tables d footnotes c labels) s
+pub record KeepsFootnote (k : Kept) (text : List ℕ) (from n : ℕ) (work footnotes labels : List ℕ) (r : Kept) (work′ footnotes′ : List ℕ) : Type 0 where
+  pub keeps : {d c body label : List ℕ} {p : Span} {ps : List Span} {s : State} → 49152 ≤ length work → Keeps k text (regionAt 32768 work) (tables d footnotes c labels) s
       → s .labels ≡ p ∷ ps → LabelIs text (p .from) (p .to) label → Piece work 32768 from n body → length (s .kept .footnotes) < 64
       → KeptIn r text work work′ d footnotes′ c labels (addFootnote (record { label = label; body = body }) (setLabels ps s))
 
-pub record KeepsDefinition (k : Kept) (from to place n titlePlace title : ℕ) (work definitions : List ℕ) (r : Kept) (work′ definitions′ : List ℕ) : Type 0 where
-  pub keeps : {text f c l : List ℕ} (d : Definition) {s : State} → 49152 ≤ length work → Keeps k text (regionAt 32768 work) (tables definitions f c l) s
+pub record KeepsDefinition (k : Kept) (text : List ℕ) (from to place n titlePlace title : ℕ) (work definitions : List ℕ) (r : Kept) (work′ definitions′ : List ℕ) : Type 0 where
+  pub keeps : {f c l : List ℕ} (d : Definition) {s : State} → 49152 ≤ length work → Keeps k text (regionAt 32768 work) (tables definitions f c l) s
       → LabelIs text from to (d .label) → Piece work 32768 place n (orEmpty (d .destination)) → Optional work 32768 titlePlace title (d .title) → length (s .kept .definitions) < 128
       → KeptIn r text work work′ definitions′ f c l (addDefinition d s)

@@ -6,6 +6,7 @@ use Prim.Native.Nat.{ℕ, zero, suc, min, _+_, _-_, _*_, _≤_}
 use lib.ListN.{length, take, drop, getD, getElem?}
 use Rattle.normalize_identifier.specs.Search as Search
 use Rattle.normalize_identifier.specs.Search.{labelsOf}
+use Rattle.signature.specs.Signed.{Signs}
 use Rattle.machine.specs.State.{State, Span, Definition, Footnote, Call}
 use Rattle.machine.specs.Media.{definitionLabels}
 use Rattle.machine.specs.Footnote.{callLabels}
@@ -48,7 +49,7 @@ Optional region end place zero (some b) = ⊥
 Optional region end place (suc n) none = ⊥
 Optional region end place (suc n) (some b) = Piece region end place n b
 
--- ---- definitions: label from, label to, destination's place, its length, one more than the title's length; the title stands behind the destination
+-- ---- definitions: label from, label to, destination's place, its length, one more than the title's length, the label's signature; the title stands behind the destination
 
 pub record DefinitionIs (table region : List ℕ) (end k : ℕ) (d : Definition) : Type 0 where
   pub destination : Piece region end (getD (column 128 2 table) k 0) (getD (column 128 3 table) k 0) (orEmpty (d .destination))
@@ -57,20 +58,23 @@ pub record DefinitionIs (table region : List ℕ) (end k : ℕ) (d : Definition)
 pub record Definitions (text table region : List ℕ) (end count : ℕ) (ds : List Definition) : Type 0 where
   pub rows : count ≡ length ds
   pub labels : Labels text (column 128 0 table) (column 128 1 table) count (definitionLabels ds)
+  pub signed : Signs (column 128 5 table) (column 128 6 table) (definitionLabels ds)
   pub each : (k : ℕ) (d : Definition) → getElem? ds k ≡ some d → DefinitionIs table region end k d
 
--- ---- footnotes: label from, label to, body's place, its length
+-- ---- footnotes: label from, label to, body's place, its length, the label's signature
 
 pub record Footnotes (text table region : List ℕ) (end count : ℕ) (fs : List Footnote) : Type 0 where
   pub rows : count ≡ length fs
   pub labels : Labels text (column 64 0 table) (column 64 1 table) count (footnoteLabels fs)
+  pub signed : Signs (column 64 4 table) (column 64 5 table) (footnoteLabels fs)
   pub each : (k : ℕ) (f : Footnote) → getElem? fs k ≡ some f → Piece region end (getD (column 64 2 table) k 0) (getD (column 64 3 table) k 0) (f .body)
 
--- ---- calls: label from, label to, how often
+-- ---- calls: label from, label to, how often, the label's signature
 
 pub record Calls (text table : List ℕ) (count : ℕ) (cs : List Call) : Type 0 where
   pub rows : count ≡ length cs
   pub labels : Labels text (column 64 0 table) (column 64 1 table) count (callLabels cs)
+  pub signed : Signs (column 64 3 table) (column 64 4 table) (callLabels cs)
   pub each : (k : ℕ) (c : Call) → getElem? cs k ≡ some c → getD (column 64 2 table) k 0 ≡ c .times
 
 -- ---- labels of open footnotes, newest first: from, to
@@ -97,9 +101,9 @@ abbrev pub tables : (definitions footnotes calls labels : List ℕ) → Tables
 tables d f c l = record { definitions = d; footnotes = f; calls = c; labels = l }
 
 pub record Long (t : Tables) : Type 0 where
-  pub definitions : length (t .definitions) ≡ 640
-  pub footnotes : length (t .footnotes) ≡ 256
-  pub calls : length (t .calls) ≡ 192
+  pub definitions : length (t .definitions) ≡ 896
+  pub footnotes : length (t .footnotes) ≡ 384
+  pub calls : length (t .calls) ≡ 320
   pub labels : length (t .labels) ≡ 128
 
 -- Where the kept bytes have no room, the end says so, and no more is known.

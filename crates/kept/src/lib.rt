@@ -7,6 +7,7 @@ ghost use Rattle.kept.specs.Kept.{column};
 ghost use Rattle.kept.specs.Contracts.{OpensLabel, FindsCall, FindsDefinition, FindsFootnote, CountsCall, TellsTimes, KeepsFootnote, KeepsDefinition};
 ghost use Rattle.kept.specs.Private.{SetsRow, FindsLabel, CarriesTitle};
 use normalize_identifier::Found;
+use signature::Signature;
 
 pub struct Kept {
     // behind the kept bytes, in their region
@@ -103,41 +104,46 @@ pub fn open_label(k: Kept, from: usize, to: usize, labels: &mut [usize]) -> Kept
 
 // ---- searches
 
-// The first of n labels, whose places are the first two columns of a table, that has the identity of the text's part from one place to another.
-fn find_label(text: &[u8], from: usize, to: usize, table: &[usize], rows: usize, n: usize) -> Found
-    ensures { λ r. ⌜ FindsLabel (now (text .entry)) from to (now (table .entry)) rows n r ⌝ }
+// The column of n rows that starts at a place, as much of it as there is.
+fn column_at(table: &[usize], start: usize, n: usize) -> &[usize]
+    ensures { λ r. ⌜ now r ≡ take n (drop start (now (table .entry))) ⌝ }
 {
-    if to < from {
-        return Found::Nothing;
+    if table.len() < start {
+        return &table[0..0];
     }
-    if text.len() < to {
-        return Found::Nothing;
+    if table.len() - start < n {
+        return &table[start..];
     }
-    let label = &text[from..to];
-    let mut i: usize = 0;
-    while i < n {
-        let start = word(table, 0, rows, i);
-        let end = word(table, rows, rows, i);
-        if end < start {
-            return Found::Nothing;
-        }
-        if text.len() < end {
-            return Found::Nothing;
-        }
-        let entry = &text[start..end];
-        if normalize_identifier::same_identity(entry, label) {
-            return Found::At(i);
-        }
-        i += 1;
-    }
-    Found::Nothing
+    let end = start + n;
+    &table[start..end]
+}
+
+// The first of n labels that has the identity of the text's part from one place to another. Their places are the first two columns of a table, their signatures two more.
+fn find_label(
+    text: &[u8],
+    from: usize,
+    to: usize,
+    table: &[usize],
+    rows: usize,
+    first: usize,
+    second: usize,
+    n: usize,
+) -> Found
+    ensures { λ r. ⌜ FindsLabel (now (text .entry)) from to (now (table .entry)) rows first second n r ⌝ }
+{
+    let starts = column_at(table, 0, rows);
+    let ends = column_at(table, rows, rows);
+    let firsts = column_at(table, first, rows);
+    let seconds = column_at(table, second, rows);
+    let label = signature::part(text, from, to);
+    signature::find(text, starts, ends, firsts, seconds, n, label)
 }
 
 // The index of the call of a label, or the one behind the last.
 pub fn call_index(k: Kept, text: &[u8], from: usize, to: usize, calls: &[usize]) -> usize
     ensures { λ r. ⌜ FindsCall k (now (text .entry)) from to (now (calls .entry)) r ⌝ }
 {
-    let found = find_label(text, from, to, calls, 64, k.calls);
+    let found = find_label(text, from, to, calls, 64, 192, 256, k.calls);
     match found {
         Found::At(i) => i,
         Found::Nothing => k.calls,
@@ -148,23 +154,46 @@ pub fn call_index(k: Kept, text: &[u8], from: usize, to: usize, calls: &[usize])
 pub fn find_definition(k: Kept, text: &[u8], from: usize, to: usize, definitions: &[usize]) -> Found
     ensures { λ r. ⌜ FindsDefinition k (now (text .entry)) from to (now (definitions .entry)) r ⌝ }
 {
-    find_label(text, from, to, definitions, 128, k.definitions)
+    find_label(text, from, to, definitions, 128, 640, 768, k.definitions)
 }
 
 // Which footnote has a label: of equal ones the first to end.
 pub fn find_footnote(k: Kept, text: &[u8], from: usize, to: usize, footnotes: &[usize]) -> Found
     ensures { λ r. ⌜ FindsFootnote k (now (text .entry)) from to (now (footnotes .entry)) r ⌝ }
 {
-    find_label(text, from, to, footnotes, 64, k.footnotes)
+    find_label(text, from, to, footnotes, 64, 256, 320, k.footnotes)
 }
 
 // ---- calls
 
-// A call at an index is counted; a new one stands behind the last.
-pub fn count_call(k: Kept, index: usize, from: usize, to: usize, calls: &mut [usize]) -> Kept
-    ensures { λ r. ⌜ CountsCall k index from to (now (calls .entry)) r (now (calls .exit)) ⌝ }
+fn put_call(calls: &mut [usize], i: usize, from: usize, to: usize, s: Signature)
+    ensures { λ _. ⌜ SetsRow 64 i (from ∷ to ∷ 1 ∷ s .first ∷ s .second ∷ []) (now (calls .entry)) (now (calls .exit)) ⌝ }
 {
-    if calls.len() != 192 {
+    if calls.len() != 320 {
+        return;
+    }
+    if 64 <= i {
+        return;
+    }
+    calls[i] = from;
+    calls[64 + i] = to;
+    calls[128 + i] = 1;
+    calls[192 + i] = s.first;
+    calls[256 + i] = s.second;
+}
+
+// A call at an index is counted; a new one stands behind the last.
+pub fn count_call(
+    k: Kept,
+    index: usize,
+    text: &[u8],
+    from: usize,
+    to: usize,
+    calls: &mut [usize],
+) -> Kept
+    ensures { λ r. ⌜ CountsCall k index (now (text .entry)) from to (now (calls .entry)) r (now (calls .exit)) ⌝ }
+{
+    if calls.len() != 320 {
         return k;
     }
     if 64 <= index {
@@ -178,9 +207,8 @@ pub fn count_call(k: Kept, index: usize, from: usize, to: usize, calls: &mut [us
         calls[128 + index] = times + 1;
         return k;
     }
-    calls[index] = from;
-    calls[64 + index] = to;
-    calls[128 + index] = 1;
+    let label = signature::part(text, from, to);
+    put_call(calls, index, from, to, signature::sign(label));
     let mut r = k;
     r.calls = index + 1;
     r
@@ -195,10 +223,18 @@ pub fn times_at(calls: &[usize], index: usize) -> usize
 
 // ---- what is kept in bytes
 
-fn put_footnote(footnotes: &mut [usize], i: usize, from: usize, to: usize, place: usize, n: usize)
-    ensures { λ _. ⌜ SetsRow 64 i (from ∷ to ∷ place ∷ n ∷ []) (now (footnotes .entry)) (now (footnotes .exit)) ⌝ }
+fn put_footnote(
+    footnotes: &mut [usize],
+    i: usize,
+    from: usize,
+    to: usize,
+    place: usize,
+    n: usize,
+    s: Signature,
+)
+    ensures { λ _. ⌜ SetsRow 64 i (from ∷ to ∷ place ∷ n ∷ s .first ∷ s .second ∷ []) (now (footnotes .entry)) (now (footnotes .exit)) ⌝ }
 {
-    if footnotes.len() != 256 {
+    if footnotes.len() != 384 {
         return;
     }
     if 64 <= i {
@@ -208,18 +244,21 @@ fn put_footnote(footnotes: &mut [usize], i: usize, from: usize, to: usize, place
     footnotes[64 + i] = to;
     footnotes[128 + i] = place;
     footnotes[192 + i] = n;
+    footnotes[256 + i] = s.first;
+    footnotes[320 + i] = s.second;
 }
 
 // The newest open footnote ends: n bytes of the work bytes are its body.
 pub fn keep_footnote(
     k: Kept,
+    text: &[u8],
     from: usize,
     n: usize,
     work: &mut [u8],
     footnotes: &mut [usize],
     labels: &[usize],
 ) -> Kept
-    ensures { λ r. ⌜ KeepsFootnote k from n (now (work .entry)) (now (footnotes .entry)) (now (labels .entry)) r (now (work .exit)) (now (footnotes .exit)) ⌝ }
+    ensures { λ r. ⌜ KeepsFootnote k (now (text .entry)) from n (now (work .entry)) (now (footnotes .entry)) (now (labels .entry)) r (now (work .exit)) (now (footnotes .exit)) ⌝ }
 {
     let mut r = k;
     if k.labels == 0 {
@@ -237,7 +276,9 @@ pub fn keep_footnote(
     r.end = regions::carry(work, from, n, 32768, k.end);
     let label_from = word(labels, 0, 64, open);
     let label_to = word(labels, 64, 64, open);
-    put_footnote(footnotes, i, label_from, label_to, k.end, n);
+    let label = signature::part(text, label_from, label_to);
+    let s = signature::sign(label);
+    put_footnote(footnotes, i, label_from, label_to, k.end, n, s);
     r.footnotes = i + 1;
     r
 }
@@ -250,10 +291,11 @@ fn put_definition(
     place: usize,
     n: usize,
     title: usize,
+    s: Signature,
 )
-    ensures { λ _. ⌜ SetsRow 128 i (from ∷ to ∷ place ∷ n ∷ title ∷ []) (now (definitions .entry)) (now (definitions .exit)) ⌝ }
+    ensures { λ _. ⌜ SetsRow 128 i (from ∷ to ∷ place ∷ n ∷ title ∷ s .first ∷ s .second ∷ []) (now (definitions .entry)) (now (definitions .exit)) ⌝ }
 {
-    if definitions.len() != 640 {
+    if definitions.len() != 896 {
         return;
     }
     if 128 <= i {
@@ -264,6 +306,8 @@ fn put_definition(
     definitions[256 + i] = place;
     definitions[384 + i] = n;
     definitions[512 + i] = title;
+    definitions[640 + i] = s.first;
+    definitions[768 + i] = s.second;
 }
 
 // A title goes behind the kept bytes, where there is one.
@@ -279,6 +323,7 @@ fn carry_title(work: &mut [u8], place: usize, title: usize, at: usize) -> usize
 // Keeps a definition: its label's place in the text, and the places of n bytes of destination and of the title in the work bytes.
 pub fn keep_definition(
     k: Kept,
+    text: &[u8],
     from: usize,
     to: usize,
     place: usize,
@@ -288,7 +333,7 @@ pub fn keep_definition(
     work: &mut [u8],
     definitions: &mut [usize],
 ) -> Kept
-    ensures { λ r. ⌜ KeepsDefinition k from to place n «title_place» title (now (work .entry)) (now (definitions .entry)) r (now (work .exit)) (now (definitions .exit)) ⌝ }
+    ensures { λ r. ⌜ KeepsDefinition k (now (text .entry)) from to place n «title_place» title (now (work .entry)) (now (definitions .entry)) r (now (work .exit)) (now (definitions .exit)) ⌝ }
 {
     if 16384 < k.end {
         return k;
@@ -300,7 +345,9 @@ pub fn keep_definition(
     let mut r = k;
     let middle = regions::carry(work, place, n, 32768, k.end);
     r.end = carry_title(work, title_place, title, middle);
-    put_definition(definitions, i, from, to, k.end, n, title);
+    let label = signature::part(text, from, to);
+    let s = signature::sign(label);
+    put_definition(definitions, i, from, to, k.end, n, title, s);
     r.definitions = i + 1;
     r
 }

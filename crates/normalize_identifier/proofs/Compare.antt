@@ -1,5 +1,5 @@
 -- Why two labels can be compared by their cursors. Assumes nothing.
-use mathlib.Core.Path.{_≡_, sym, _∙_}
+use mathlib.Core.Path.{_≡_, _∙_}
 use mathlib.Core.Bool.{Bool, true, false}
 use mathlib.Core.List.{List, []}
 use Prim.Native.Nat.{ℕ}
@@ -34,9 +34,3 @@ module _ {a : List ℕ} {c : Cursor} {m : Step} {w : Bool} (b : List ℕ) (d : C
 
   pub same-end : {t : Bool} → m ≡ End → t ≡ same [] (leftAt b d) → t ≡ w
   same-end p q = q ∙ (rw (left-end s p) at e)
-
-  pub same-end-no : {t : Bool} → m ≡ End → t ≡ same [] (leftAt b d) → t ≡ false → false ≡ w
-  same-end-no p q r = sym r ∙ same-end p q
-
-  pub same-end-yes : {t : Bool} → m ≡ End → t ≡ same [] (leftAt b d) → t ≡ true → true ≡ w
-  same-end-yes p q r = sym r ∙ same-end p q

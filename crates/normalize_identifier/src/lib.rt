@@ -6,7 +6,6 @@ ghost use Prim.Native.Nat.{_+_};
 ghost use lib.ListN.{drop};
 ghost use Rattle.lent.specs.Bytes.{same};
 ghost use Rattle.lent.specs.Fill.{Filled};
-ghost use Rattle.normalize_identifier.specs.Search.{firstSame, labelsOf, Table};
 ghost use Rattle.normalize_identifier.specs.Identity.{atStart, blank, blanks, folded, identityOf, leftAt, Spells};
 
 // A place in a label, and whether a byte of its identity stands before it.
@@ -96,7 +95,8 @@ pub fn next(label: &[u8], c: Cursor) -> Step
     )
 }
 
-fn start() -> Cursor
+// Before a label's first byte.
+pub fn start() -> Cursor
     ensures { λ r. ⌜ r ≡ atStart ⌝ }
 {
     Cursor {
@@ -149,40 +149,4 @@ pub fn same_identity(a: &[u8], b: &[u8]) -> bool
         c = e;
         d = f;
     }
-}
-
-// The first of n labels, the parts of `text` from each start to its end, that has the identity of `label`.
-pub fn find(text: &[u8], starts: &[usize], ends: &[usize], n: usize, label: &[u8]) -> Found
-    requires { ⌜ Table (now text) (now starts) (now ends) n ⌝ }
-    ensures { λ r. ⌜ r ≡ firstSame (labelsOf (now (text .entry)) (now (starts .entry)) (now (ends .entry)) n) (now (label .entry)) ⌝ }
-{
-    let mut k = 0;
-    let found = 'search: loop {
-        if k == n {
-            break Found::Nothing;
-        }
-        let from = starts[k];
-        let to = ends[k];
-        let entry = &text[from..to];
-        let mut c = start();
-        let mut d = start();
-        'same: loop {
-            let Step::Byte(x, e) = next(entry, c) else {
-                if ended(label, d) {
-                    break 'search Found::At(k);
-                }
-                break 'same;
-            };
-            let Step::Byte(y, f) = next(label, d) else {
-                break 'same;
-            };
-            if x != y {
-                break 'same;
-            }
-            c = e;
-            d = f;
-        }
-        k += 1;
-    };
-    found
 }

@@ -93,23 +93,23 @@ unset k e q = let k′ = rw e at k in let z : _≡_ {A = ℕ} 0 1 = cc in absurd
 span-same : {l : Label} {o : Option State.Span} {q : State.Span} {p : Span} → labelOf l ≡ o → l ≡ L.Is p → o ≡ some q → q ≡ spanIs p
 span-same k e i = let k′ = rw e at k in (cc)
 
-pub not-labelled : {b : Whole} {work definitions : List ℕ} → b .links .media .«reference_id» ≡ L.Unset → KeepsNewest b work definitions b work definitions
+pub not-labelled : {b : Whole} {text work definitions : List ℕ} → b .links .media .«reference_id» ≡ L.Unset → KeepsNewest b text work definitions b work definitions
 unfolding within exec
 not-labelled e = record {
-  keeps = λ text w i j. record {
+  keeps = λ w i j. record {
     handles = λ t s u v a y p.
         let h = defined-there t s u (done true (define t s) u p .went) in
         unset (newest-is a y (h .media-is) .referenceId) e (h .span-is);
   };
 }
 
-pub keeps-at : {p : Span} {b : Whole} {work definitions work′ definitions′ : List ℕ} {k : Kept} {l : Links}
-    → KeepsDefinition (b .kept) (p .from .0) (p .to .0) (16384 + min (ownPiece (b .links .media .destination) .place) 16384) (ownPiece (b .links .media .destination) .length) (16384 + min (textPiece (b .links .media .title) .place) 16384) (wordOf (b .links .media .title)) work definitions k work′ definitions′
-    → Closes (b .links) l → length work′ ≡ length work → KeepsAt p b work definitions (withLinks l (withKept k b)) work′ definitions′
+pub keeps-at : {p : Span} {b : Whole} {text work definitions work′ definitions′ : List ℕ} {k : Kept} {l : Links}
+    → KeepsDefinition (b .kept) text (p .from .0) (p .to .0) (16384 + min (ownPiece (b .links .media .destination) .place) 16384) (ownPiece (b .links .media .destination) .length) (16384 + min (textPiece (b .links .media .title) .place) 16384) (wordOf (b .links .media .title)) work definitions k work′ definitions′
+    → Closes (b .links) l → length work′ ≡ length work → KeepsAt p b text work definitions (withLinks l (withKept k b)) work′ definitions′
 unfolding within exec
-keeps-at {p} {b} {work} {definitions} {work′} {definitions′} {k} {l} c closes n = record {
+keeps-at {p} {b} {text} {work} {definitions} {work′} {definitions′} {k} {l} c closes n = record {
   keeps = λ e. record {
-    keeps = λ text w i j. record {
+    keeps = λ w i j. record {
       handles = λ t s u v a y q.
           let g = done true (define t s) u q in
           let h = defined-there t s u (g .went) in
@@ -138,26 +138,26 @@ keeps-at {p} {b} {work} {definitions} {work′} {definitions′} {k} {l} c close
   };
 }
 
-pub keeps-labelled : {p : Span} {b r : Whole} {work definitions work′ definitions′ : List ℕ} → b .links .media .«reference_id» ≡ L.Is p → KeepsAt p b work definitions r work′ definitions′ → KeepsNewest b work definitions r work′ definitions′
+pub keeps-labelled : {p : Span} {b r : Whole} {text work definitions work′ definitions′ : List ℕ} → b .links .media .«reference_id» ≡ L.Is p → KeepsAt p b text work definitions r work′ definitions′ → KeepsNewest b text work definitions r work′ definitions′
 keeps-labelled e k = k .keeps e
 
 -- the capture goes first
-pub dropped-first : {b r : Whole} {x : Context} {work starts definitions work′ definitions′ : List ℕ} → Ends drop (b .context) starts x → KeepsNewest (withContext x b) work definitions r work′ definitions′ → OnDefinitions Roomy (drop ▸ keepDefinition) b work starts definitions r work′ definitions′
+pub dropped-first : {b r : Whole} {x : Context} {text work starts definitions work′ definitions′ : List ℕ} → Ends drop (b .context) starts x → KeepsNewest (withContext x b) text work definitions r work′ definitions′ → OnDefinitions Roomy (drop ▸ keepDefinition) b text work starts definitions r work′ definitions′
 unfolding within
-dropped-first {b} {x = x} k l = record {
-  on-definitions = λ text w i j d. record {
+dropped-first {b} {x = x} {text = text} k l = record {
+  on-definitions = λ w i j d. record {
     handles = λ t s u v a y p.
         let f = first-goes (within drop t s) (λ z. within keepDefinition t z) u p in
         let y′ = lifts-ends {View = Reads text} refl k .from-starts text w j .handles t s (f .0) v a y (f .1) in
         let h = quiet-steady drop refl .held t s (f .0) (f .1) in
         let m = room-in (a .held) y in
-        l .keeps text w i d .handles t (f .0) u v (room-out y′ (omega arith)) y′ (f .2);
+        l .keeps w i d .handles t (f .0) u v (room-out y′ (omega arith)) y′ (f .2);
   };
 }
 
 -- by what the code found of the pieces
-pub keeps-pieces : {p : Span} {b : Whole} {work definitions work′ definitions′ : List ℕ} {k : Kept} {l : Links} {d title : Links.Piece} {word place titlePlace : ℕ} → d ≡ ownPiece (b .links .media .destination) → title ≡ textPiece (b .links .media .title)
+pub keeps-pieces : {p : Span} {b : Whole} {text work definitions work′ definitions′ : List ℕ} {k : Kept} {l : Links} {d title : Links.Piece} {word place titlePlace : ℕ} → d ≡ ownPiece (b .links .media .destination) → title ≡ textPiece (b .links .media .title)
     → word ≡ wordOf (b .links .media .title) → place ≡ min (d .place) 16384 → titlePlace ≡ min (title .place) 16384
-    → KeepsDefinition (b .kept) (p .from .0) (p .to .0) (16384 + place) (d .length) (16384 + titlePlace) word work definitions k work′ definitions′ → Closes (b .links) l → length work′ ≡ length work
-    → KeepsAt p b work definitions (withLinks l (withKept k b)) work′ definitions′
+    → KeepsDefinition (b .kept) text (p .from .0) (p .to .0) (16384 + place) (d .length) (16384 + titlePlace) word work definitions k work′ definitions′ → Closes (b .links) l → length work′ ≡ length work
+    → KeepsAt p b text work definitions (withLinks l (withKept k b)) work′ definitions′
 keeps-pieces e1 e2 e3 e4 e5 k c n = keeps-at (rw (e4, e5, e1, e2, e3) at k) c n

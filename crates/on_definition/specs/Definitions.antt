@@ -24,6 +24,6 @@ pub record FromDefinitions (Need : Whole → Type 0) (d : Command) (b : Whole) (
 abbrev pub withDefinitions : List ℕ → World → World
 withDefinitions x w = withTables (tables x (w .tables .footnotes) (w .tables .calls) (w .tables .labels)) w
 
--- the work bytes and the definitions, and the starts to read
-pub record OnDefinitions (Need : Whole → Type 0) (d : Command) (b : Whole) (work starts definitions : List ℕ) (r : Whole) (work′ definitions′ : List ℕ) : Type 0 where
-  pub on-definitions : (text : List ℕ) (w : World) → w .work ≡ work → w .starts ≡ starts → w .tables .definitions ≡ definitions → Handles text Need (Reads text) d b w r (withDefinitions definitions′ (withWork work′ w))
+-- the work bytes and the definitions, and the text and the starts to read
+pub record OnDefinitions (Need : Whole → Type 0) (d : Command) (b : Whole) (text work starts definitions : List ℕ) (r : Whole) (work′ definitions′ : List ℕ) : Type 0 where
+  pub on-definitions : (w : World) → w .work ≡ work → w .starts ≡ starts → w .tables .definitions ≡ definitions → Handles text Need (Reads text) d b w r (withDefinitions definitions′ (withWork work′ w))

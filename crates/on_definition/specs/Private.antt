@@ -70,9 +70,9 @@ wordOf T.Unset = 0
 wordOf (T.Is p) = suc (min (p .length) 16384)
 
 -- the newest medium is kept, and closed
-pub record KeepsNewest (b : Whole) (work definitions : List ℕ) (r : Whole) (work′ definitions′ : List ℕ) : Type 0 where
-  pub keeps : (text : List ℕ) (w : World) → w .work ≡ work → w .tables .definitions ≡ definitions → Handles text Held (Reads text) keepDefinition b w r (withDefinitions definitions′ (withWork work′ w))
+pub record KeepsNewest (b : Whole) (text work definitions : List ℕ) (r : Whole) (work′ definitions′ : List ℕ) : Type 0 where
+  pub keeps : (w : World) → w .work ≡ work → w .tables .definitions ≡ definitions → Handles text Held (Reads text) keepDefinition b w r (withDefinitions definitions′ (withWork work′ w))
 
 -- under this slice
-pub record KeepsAt (p : Span) (b : Whole) (work definitions : List ℕ) (r : Whole) (work′ definitions′ : List ℕ) : Type 0 where
-  pub keeps : b .links .media .«reference_id» ≡ L.Is p → KeepsNewest b work definitions r work′ definitions′
+pub record KeepsAt (p : Span) (b : Whole) (text work definitions : List ℕ) (r : Whole) (work′ definitions′ : List ℕ) : Type 0 where
+  pub keeps : b .links .media .«reference_id» ≡ L.Is p → KeepsNewest b text work definitions r work′ definitions′

@@ -122,8 +122,8 @@ fn word_of(t: Text) -> usize
     }
 }
 
-fn keep_at(b: Whole, p: Span, work: &mut [u8], definitions: &mut [usize]) -> Whole
-    ensures { λ r. ⌜ KeepsAt p b (now (work .entry)) (now (definitions .entry)) r (now (work .exit)) (now (definitions .exit)) ⌝ }
+fn keep_at(b: Whole, p: Span, text: &[u8], work: &mut [u8], definitions: &mut [usize]) -> Whole
+    ensures { λ r. ⌜ KeepsAt p b (now (text .entry)) (now (work .entry)) (now (definitions .entry)) r (now (work .exit)) (now (definitions .exit)) ⌝ }
 {
     let l = b.links;
     let m = l.media;
@@ -137,6 +137,7 @@ fn keep_at(b: Whole, p: Span, work: &mut [u8], definitions: &mut [usize]) -> Who
     let mut r = b;
     r.kept = kept::keep_definition(
         b.kept,
+        text,
         p.from.0,
         p.to.0,
         16384 + place,
@@ -150,27 +151,28 @@ fn keep_at(b: Whole, p: Span, work: &mut [u8], definitions: &mut [usize]) -> Who
     r
 }
 
-fn keep_newest(b: Whole, work: &mut [u8], definitions: &mut [usize]) -> Whole
-    ensures { λ r. ⌜ KeepsNewest b (now (work .entry)) (now (definitions .entry)) r (now (work .exit)) (now (definitions .exit)) ⌝ }
+fn keep_newest(b: Whole, text: &[u8], work: &mut [u8], definitions: &mut [usize]) -> Whole
+    ensures { λ r. ⌜ KeepsNewest b (now (text .entry)) (now (work .entry)) (now (definitions .entry)) r (now (work .exit)) (now (definitions .exit)) ⌝ }
 {
     let l = b.links;
     let m = l.media;
     let label = m.reference_id;
     match label {
         Label::Unset => b,
-        Label::Is(p) => keep_at(b, p, work, definitions),
+        Label::Is(p) => keep_at(b, p, text, work, definitions),
     }
 }
 
 pub fn on_exit_definition(
     b: Whole,
+    text: &[u8],
     work: &mut [u8],
     starts: &[usize],
     definitions: &mut [usize],
 ) -> Whole
-    ensures { λ r. ⌜ OnDefinitions Roomy onExitDefinition b (now (work .entry)) (now (starts .entry)) (now (definitions .entry)) r (now (work .exit)) (now (definitions .exit)) ⌝ }
+    ensures { λ r. ⌜ OnDefinitions Roomy onExitDefinition b (now (text .entry)) (now (work .entry)) (now (starts .entry)) (now (definitions .entry)) r (now (work .exit)) (now (definitions .exit)) ⌝ }
 {
     let mut r = b;
     r.context = context::drop(b.context, starts);
-    keep_newest(r, work, definitions)
+    keep_newest(r, text, work, definitions)
 }

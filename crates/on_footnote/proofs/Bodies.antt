@@ -98,12 +98,12 @@ piece-is b w c l m k =
     let x2 = length-drop from (w .work) in
     record { long = omega arith; below = omega arith; bytes = k .bytes }
 
-pub keeps-body : {b : Whole} {work starts footnotes labels work′ footnotes′ : List ℕ} {k : Kept} {x : Buffers}
-    → KeepsFootnote (b .kept) (b .context .buffers .start) (b .context .buffers .end - b .context .buffers .start) work footnotes labels k work′ footnotes′ → Stand.Drops (b .context .buffers) starts x → length work′ ≡ length work
-    → OnFootnotes Roomy keepFootnote b work starts footnotes labels (withKept k (withContext (withBuffers x (b .context)) b)) work′ footnotes′
+pub keeps-body : {b : Whole} {text work starts footnotes labels work′ footnotes′ : List ℕ} {k : Kept} {x : Buffers}
+    → KeepsFootnote (b .kept) text (b .context .buffers .start) (b .context .buffers .end - b .context .buffers .start) work footnotes labels k work′ footnotes′ → Stand.Drops (b .context .buffers) starts x → length work′ ≡ length work
+    → OnFootnotes Roomy keepFootnote b text work starts footnotes labels (withKept k (withContext (withBuffers x (b .context)) b)) work′ footnotes′
 unfolding within exec
-keeps-body {b = b} {work = work} {starts = starts} {work′ = work′} k drops n = record {
-  on-footnotes = λ text w i j f l. record {
+keeps-body {b = b} {text = text} {work = work} {starts = starts} {work′ = work′} k drops n = record {
+  on-footnotes = λ w i j f l. record {
     handles = λ t s u v a y p.
         let g = done true (keep t s) u p in
         let h = body-there t s u (g .went) in
@@ -131,10 +131,10 @@ keeps-body {b = b} {work = work} {starts = starts} {work′ = work′} k drops n
   };
 }
 
-pub no-body : {b : Whole} {work starts footnotes labels : List ℕ} → b .context .buffers .end < b .context .buffers .start → OnFootnotes Roomy keepFootnote b work starts footnotes labels b work footnotes
+pub no-body : {b : Whole} {text work starts footnotes labels : List ℕ} → b .context .buffers .end < b .context .buffers .start → OnFootnotes Roomy keepFootnote b text work starts footnotes labels b work footnotes
 unfolding within exec
-no-body {b = b} o = record {
-  on-footnotes = λ text w i j f l. record {
+no-body {b = b} {text = text} o = record {
+  on-footnotes = λ w i j f l. record {
     handles = λ t s u v a y p.
         let h = body-there t s u (done true (keep t s) u p .went) in
         absurd (omega (arith, captured text b w s (h .body) (h .others) (h .captures-are) (a .captures) y .ordered));
@@ -142,6 +142,6 @@ no-body {b = b} o = record {
 }
 
 -- and the container goes
-pub loosens-body : {b k : Whole} {work starts footnotes labels work′ footnotes′ : List ℕ} {x : Context} → OnFootnotes Roomy keepFootnote b work starts footnotes labels k work′ footnotes′ → Sets loosen (k .context) x
-    → OnFootnotes Roomy (keepFootnote ▸ loosen) b work starts footnotes labels (withContext x k) work′ footnotes′
-loosens-body k l = record { on-footnotes = λ text w i j f h. then (k .on-footnotes text w i j f h) (sets-whole refl l .unlent text _) (λ a. tt) }
+pub loosens-body : {b k : Whole} {text work starts footnotes labels work′ footnotes′ : List ℕ} {x : Context} → OnFootnotes Roomy keepFootnote b text work starts footnotes labels k work′ footnotes′ → Sets loosen (k .context) x
+    → OnFootnotes Roomy (keepFootnote ▸ loosen) b text work starts footnotes labels (withContext x k) work′ footnotes′
+loosens-body {text = text} k l = record { on-footnotes = λ w i j f h. then (k .on-footnotes w i j f h) (sets-whole refl l .unlent text _) (λ a. tt) }

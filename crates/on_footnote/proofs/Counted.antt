@@ -74,7 +74,7 @@ pub by-label : {p : Span} {b r : Whole} {text work out calls work′ out′ call
 by-label k e = k .calls-label e
 
 module _ {p : Span} {b : Whole} {text calls calls′ : List ℕ} {index : ℕ} {k : Kept} {l : Links}
-    (finds : FindsCall (b .kept) text (p .from .0) (p .to .0) calls index) (counts : CountsCall (b .kept) index (p .from .0) (p .to .0) calls k calls′) (closes : Closes (b .links) l) where
+    (finds : FindsCall (b .kept) text (p .from .0) (p .to .0) calls index) (counts : CountsCall (b .kept) index text (p .from .0) (p .to .0) calls k calls′) (closes : Closes (b .links) l) where
   counting : (w : World) (s u : State) → w .tables .calls ≡ calls → b .links .end ≤ 16384 → fitting u ≡ true → Built text b w s → (c : KnownCall p text s u) → Counted text index (withKept k (withLinks l b)) (withCalls calls′ w) (c .label) (c .others) s
   counting w s u h a f y c =
       let cs = s .kept .calls in

@@ -36,9 +36,9 @@ withCalls x w = let t = w .tables in withTables (tables (t .definitions) (t .foo
 pub record OnLabels (Need : Whole → Type 0) (View : Turn → Type 0) (d : Command) (b : Whole) (labels : List ℕ) (r : Whole) (labels′ : List ℕ) : Type 0 where
   pub on-labels : (text : List ℕ) (w : World) → w .tables .labels ≡ labels → Handles text Need View d b w r (withLabels labels′ w)
 
--- the work bytes and the footnotes, and to read the starts of captures and the labels of open footnotes
-pub record OnFootnotes (Need : Whole → Type 0) (d : Command) (b : Whole) (work starts footnotes labels : List ℕ) (r : Whole) (work′ footnotes′ : List ℕ) : Type 0 where
-  pub on-footnotes : (text : List ℕ) (w : World) → w .work ≡ work → w .starts ≡ starts → w .tables .footnotes ≡ footnotes → w .tables .labels ≡ labels
+-- the work bytes and the footnotes, and to read the text, the starts of captures and the labels of open footnotes
+pub record OnFootnotes (Need : Whole → Type 0) (d : Command) (b : Whole) (text work starts footnotes labels : List ℕ) (r : Whole) (work′ footnotes′ : List ℕ) : Type 0 where
+  pub on-footnotes : (w : World) → w .work ≡ work → w .starts ≡ starts → w .tables .footnotes ≡ footnotes → w .tables .labels ≡ labels
       → Handles text Need (Reads text) d b w r (withFootnotes footnotes′ (withWork work′ w))
 
 -- the work bytes, the page and the calls, and to read the text

@@ -54,7 +54,7 @@ fn call_label(
     let to = p.to.0;
     let index = kept::call_index(b.kept, text, from, to, calls);
     let mut r = b;
-    r.kept = kept::count_call(b.kept, index, from, to, calls);
+    r.kept = kept::count_call(b.kept, index, text, from, to, calls);
     r.links = links::close_media(b.links);
     if b.context.flags.alt {
         return r;
@@ -130,14 +130,15 @@ pub fn on_exit_gfm_footnote_definition_prefix(b: Whole, starts: &mut [usize]) ->
 
 pub fn on_exit_gfm_footnote_definition(
     b: Whole,
+    text: &[u8],
     work: &mut [u8],
     starts: &[usize],
     footnotes: &mut [usize],
     labels: &[usize],
 ) -> Whole
-    ensures { λ r. ⌜ OnFootnotes Roomy onExitGfmFootnoteDefinition b (now (work .entry)) (now (starts .entry)) (now (footnotes .entry)) (now (labels .entry)) r (now (work .exit)) (now (footnotes .exit)) ⌝ }
+    ensures { λ r. ⌜ OnFootnotes Roomy onExitGfmFootnoteDefinition b (now (text .entry)) (now (work .entry)) (now (starts .entry)) (now (footnotes .entry)) (now (labels .entry)) r (now (work .exit)) (now (footnotes .exit)) ⌝ }
 {
-    let k = keep_body(b, work, starts, footnotes, labels);
+    let k = keep_body(b, text, work, starts, footnotes, labels);
     let mut r = k;
     r.context = context::loosen(k.context);
     r
@@ -146,12 +147,13 @@ pub fn on_exit_gfm_footnote_definition(
 // The newest capture is the body of the newest open footnote.
 fn keep_body(
     b: Whole,
+    text: &[u8],
     work: &mut [u8],
     starts: &[usize],
     footnotes: &mut [usize],
     labels: &[usize],
 ) -> Whole
-    ensures { λ r. ⌜ OnFootnotes Roomy keepFootnote b (now (work .entry)) (now (starts .entry)) (now (footnotes .entry)) (now (labels .entry)) r (now (work .exit)) (now (footnotes .exit)) ⌝ }
+    ensures { λ r. ⌜ OnFootnotes Roomy keepFootnote b (now (text .entry)) (now (work .entry)) (now (starts .entry)) (now (footnotes .entry)) (now (labels .entry)) r (now (work .exit)) (now (footnotes .exit)) ⌝ }
 {
     let mut r = b;
     let mut c = b.context;
@@ -160,7 +162,7 @@ fn keep_body(
     if to < from {
         return b;
     }
-    r.kept = kept::keep_footnote(b.kept, from, to - from, work, footnotes, labels);
+    r.kept = kept::keep_footnote(b.kept, text, from, to - from, work, footnotes, labels);
     c.buffers = buffers::drop(b.context.buffers, starts);
     r.context = c;
     r

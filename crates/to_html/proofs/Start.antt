@@ -11,6 +11,7 @@ use Rattle.machine.specs.State.{start}
 use Rattle.machine.specs.Totals.{held, kept}
 use Rattle.regions.specs.Regions.{regionAt}
 use Rattle.normalize_identifier.specs.Search as Search
+use Rattle.signature.specs.Signed.{Signs}
 use Rattle.kept.specs.declared.Kept.{Kept}
 use Rattle.kept.specs.Kept.{Labels}
 use Rattle.context.specs.declared.Context.{Context}
@@ -23,6 +24,9 @@ region-long base w l h = simp (length-take, length-drop) (omega arith)
 no-labels : (text from to : List ℕ) → Labels text from to 0 []
 unfolding Search.labelsOf Search.parts
 no-labels text from to = record { places = record { starts-long = zero-le; ends-long = zero-le; ordered = λ k h. absurd (not-suc-le-zero h); inside = λ k h. absurd (not-suc-le-zero h) }; are = refl }
+
+no-signs : (firsts seconds : List ℕ) → Signs firsts seconds []
+no-signs firsts seconds = record { signs = λ k h. absurd (not-suc-le-zero h) }
 
 no-row : {A : Type 0} (k : ℕ) (a : A) → getElem? [] k ≡ some a → ⊥
 no-row k a p = let z : _≡_ {A = ℕ} 0 1 = cc in omega arith
@@ -39,9 +43,9 @@ begun k =
         kept = record {
           long = t;
           end = refl;
-          definitions = λ h. record { rows = refl; labels = no-labels text _ _; each = λ k d p. absurd (no-row k d p) };
-          footnotes = λ h. record { rows = refl; labels = no-labels text _ _; each = λ k d p. absurd (no-row k d p) };
-          calls = record { rows = refl; labels = no-labels text _ _; each = λ k d p. absurd (no-row k d p) };
+          definitions = λ h. record { rows = refl; labels = no-labels text _ _; signed = no-signs _ _; each = λ k d p. absurd (no-row k d p) };
+          footnotes = λ h. record { rows = refl; labels = no-labels text _ _; signed = no-signs _ _; each = λ k d p. absurd (no-row k d p) };
+          calls = record { rows = refl; labels = no-labels text _ _; signed = no-signs _ _; each = λ k d p. absurd (no-row k d p) };
           labels = record { rows = refl; few = zero-le; each = tt };
         };
       };

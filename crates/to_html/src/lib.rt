@@ -198,9 +198,9 @@ pub fn to_html(
     ensures { λ r. ⌜ Renders (now (text .entry)) (now (events .entry)) options (now (out .entry)) (now (out .exit)) r ⌝ }
 {
     let mut starts = [0usize; 64];
-    let mut definitions = [0usize; 640];
-    let mut footnotes = [0usize; 256];
-    let mut calls = [0usize; 192];
+    let mut definitions = [0usize; 896];
+    let mut footnotes = [0usize; 384];
+    let mut calls = [0usize; 320];
     let mut labels = [0usize; 128];
     let default = options.ending;
     let ending = find_ending::find_ending(text, events, default);

@@ -17,8 +17,8 @@ Inv-loop text events n signatures label s count i₀ i = listed (identities n te
 abbrev μ-loop : tie.MeasureT-loop
 μ-loop text events n signatures label s count i₀ i = count - i
 
-signature-requires : tie.Need-signature-requires Inv-loop μ-loop
-signature-requires c κs = search needs
+sign-requires : tie.Need-sign-requires Inv-loop μ-loop
+sign-requires c κs = search needs
 
 count-requires : tie.Need-count-requires Inv-loop μ-loop
 count-requires c κs = search needs
@@ -59,8 +59,8 @@ loop-less-2 c = search needs
 loop-again-2 : tie.Need-loop-again-2 Inv-loop μ-loop
 loop-again-2 c = search listed-skipped
 
-slice-requires : tie.Need-slice-requires Inv-loop μ-loop
-slice-requires c κs = search needs
+part-requires : tie.Need-part-requires Inv-loop μ-loop
+part-requires c κs = search needs
 
 same-identity-requires : tie.Need-same-identity-requires Inv-loop μ-loop
 same-identity-requires c κs = search needs
@@ -86,7 +86,7 @@ has-label-spec =
     (tie.spec
     Inv-loop
     μ-loop
-    signature-requires
+    sign-requires
     count-requires
     loop-holds
     read-requires
@@ -100,7 +100,7 @@ has-label-spec =
     add-i-2
     loop-less-2
     loop-again-2
-    slice-requires
+    part-requires
     same-identity-requires
     returns
     add-i-3

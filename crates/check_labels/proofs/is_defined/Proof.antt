@@ -7,8 +7,8 @@ use Rattle.check_labels.proofs.is_defined.Tie as tie
 enum-known-p : tie.Need-enum-known-p
 enum-known-p c = search needs
 
-slice-requires : tie.Need-slice-requires
-slice-requires c κs = search needs
+part-requires : tie.Need-part-requires
+part-requires c κs = search needs
 
 has-label-requires : tie.Need-has-label-requires
 has-label-requires c κs = search needs
@@ -24,4 +24,4 @@ returns-2 c = search defined-none
 
 pub is-defined-spec : {M : Type 1} → statement M
 is-defined-spec =
-    tie.close (tie.spec enum-known-p slice-requires has-label-requires enum-told returns returns-2)
+    tie.close (tie.spec enum-known-p part-requires has-label-requires enum-told returns returns-2)

@@ -1,7 +1,8 @@
 -- The loop's invariant: the signatures below `i` are right. Assumes nothing.
-use Prim.Native.Nat.{_-_}
 use mathlib.Core.Path.{_≡_}
-use lib.ListN.{length}
+use Prim.Native.Nat.{_-_}
+use native.Mathlib.Omega.{arith}
+use lib.ListN.{length, length-set}
 use Rattle.check_labels.specs.Signature.{SignedTo}
 use Rattle.check_labels.proofs.Signatures.{signed-none, signed-other, signed-put, signed-full, signed-end}
 use borrow.Author.Needs.{needs}
@@ -47,17 +48,32 @@ loop-less c = search needs
 loop-again : tie.Need-loop-again Inv-loop μ-loop
 loop-again c = search (signed-other, needs)
 
-slice-requires : tie.Need-slice-requires Inv-loop μ-loop
-slice-requires c κs = search needs
+part-requires : tie.Need-part-requires Inv-loop μ-loop
+part-requires c κs = search needs
 
-signature-requires : tie.Need-signature-requires Inv-loop μ-loop
-signature-requires c κs = search needs
+sign-requires : tie.Need-sign-requires Inv-loop μ-loop
+sign-requires c κs = search needs
 
 mul-signatures : tie.Need-mul-signatures Inv-loop μ-loop
 mul-signatures c = search needs
 
+mul-signatures-2 : tie.Need-mul-signatures-2 Inv-loop μ-loop
+mul-signatures-2 c = search needs
+
 slice-write-signatures : tie.Need-slice-write-signatures Inv-loop μ-loop
 slice-write-signatures c = search needs
+
+mul-signatures-3 : tie.Need-mul-signatures-3 Inv-loop μ-loop
+mul-signatures-3 c = search needs
+
+add-signatures : tie.Need-add-signatures Inv-loop μ-loop
+add-signatures c = search needs
+
+mul-signatures-4 : tie.Need-mul-signatures-4 Inv-loop μ-loop
+mul-signatures-4 c = search needs
+
+slice-write-signatures-2 : tie.Need-slice-write-signatures-2 Inv-loop μ-loop
+slice-write-signatures-2 c = simp length-set (omega arith)
 
 add-i-2 : tie.Need-add-i-2 Inv-loop μ-loop
 add-i-2 c = search needs
@@ -91,10 +107,15 @@ sign-spec =
     add-i
     loop-less
     loop-again
-    slice-requires
-    signature-requires
+    part-requires
+    sign-requires
     mul-signatures
+    mul-signatures-2
     slice-write-signatures
+    mul-signatures-3
+    add-signatures
+    mul-signatures-4
+    slice-write-signatures-2
     add-i-2
     loop-less-2
     loop-again-2

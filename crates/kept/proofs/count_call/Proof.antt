@@ -1,10 +1,8 @@
 -- Where it was counted before, once more; else behind the last. Assumes nothing.
-use native.Mathlib.Omega.{arith}
-use lib.ListN.{length-set}
+use Rattle.kept.proofs.Counts.{counts-short, counts-full, counts-many, counts-more, counts-new}
 use borrow.Author.Needs.{needs}
 use Rattle.kept.proofs.count_call.Statement.{statement}
 use Rattle.kept.proofs.count_call.Tie as tie
-use Rattle.kept.proofs.Counts.{counts-short, counts-full, counts-many, counts-more, counts-new}
 
 returns : tie.Need-returns
 returns c = search counts-short
@@ -42,29 +40,14 @@ same-length c = search needs
 returns-4 : tie.Need-returns-4
 returns-4 c = search counts-more
 
-mul-calls-2 : tie.Need-mul-calls-2
-mul-calls-2 c = search needs
+part-requires : tie.Need-part-requires
+part-requires c κs = search needs
 
-slice-write-calls-2 : tie.Need-slice-write-calls-2
-slice-write-calls-2 c = search needs
+sign-requires : tie.Need-sign-requires
+sign-requires c κs = search needs
 
-add-calls-3 : tie.Need-add-calls-3
-add-calls-3 c = search needs
-
-mul-calls-3 : tie.Need-mul-calls-3
-mul-calls-3 c = search needs
-
-slice-write-calls-3 : tie.Need-slice-write-calls-3
-slice-write-calls-3 c = simp length-set (omega arith)
-
-add-calls-4 : tie.Need-add-calls-4
-add-calls-4 c = search needs
-
-mul-calls-4 : tie.Need-mul-calls-4
-mul-calls-4 c = search needs
-
-slice-write-calls-4 : tie.Need-slice-write-calls-4
-slice-write-calls-4 c = simp length-set (omega arith)
+put-call-requires : tie.Need-put-call-requires
+put-call-requires c κs = search needs
 
 add-r : tie.Need-add-r
 add-r c = search needs
@@ -91,14 +74,9 @@ count-call-spec =
     slice-write-calls
     same-length
     returns-4
-    mul-calls-2
-    slice-write-calls-2
-    add-calls-3
-    mul-calls-3
-    slice-write-calls-3
-    add-calls-4
-    mul-calls-4
-    slice-write-calls-4
+    part-requires
+    sign-requires
+    put-call-requires
     add-r
     same-length-2
     returns-5)

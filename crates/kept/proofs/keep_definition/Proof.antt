@@ -16,6 +16,12 @@ carry-requires c κs = search needs
 carry-title-requires : tie.Need-carry-title-requires
 carry-title-requires c κs = search needs
 
+part-requires : tie.Need-part-requires
+part-requires c κs = search needs
+
+sign-requires : tie.Need-sign-requires
+sign-requires c κs = search needs
+
 put-definition-requires : tie.Need-put-definition-requires
 put-definition-requires c κs = search needs
 
@@ -39,6 +45,8 @@ keep-definition-spec =
     returns-2
     carry-requires
     carry-title-requires
+    part-requires
+    sign-requires
     put-definition-requires
     add-r
     same-length

@@ -25,6 +25,12 @@ word-requires c κs = search needs
 word-requires-2 : tie.Need-word-requires-2
 word-requires-2 c κs = search needs
 
+part-requires : tie.Need-part-requires
+part-requires c κs = search needs
+
+sign-requires : tie.Need-sign-requires
+sign-requires c κs = search needs
+
 put-footnote-requires : tie.Need-put-footnote-requires
 put-footnote-requires c κs = search needs
 
@@ -51,6 +57,8 @@ keep-footnote-spec =
     carry-requires
     word-requires
     word-requires-2
+    part-requires
+    sign-requires
     put-footnote-requires
     add-r
     same-length

@@ -1,10 +1,10 @@
 -- Where the table has the row. Assumes nothing.
 use native.Mathlib.Omega.{arith}
 use lib.ListN.{length-set}
+use Rattle.kept.proofs.Put.{no-table, no-row, definition-words}
 use borrow.Author.Needs.{needs}
 use Rattle.kept.proofs.put_definition.Statement.{statement}
 use Rattle.kept.proofs.put_definition.Tie as tie
-use Rattle.kept.proofs.Put.{no-table, no-row, five-words}
 
 returns : tie.Need-returns
 returns c = search no-table
@@ -54,11 +54,29 @@ mul-definitions-5 c = search needs
 slice-write-definitions-5 : tie.Need-slice-write-definitions-5
 slice-write-definitions-5 c = simp length-set (omega arith)
 
+add-definitions-5 : tie.Need-add-definitions-5
+add-definitions-5 c = search needs
+
+mul-definitions-6 : tie.Need-mul-definitions-6
+mul-definitions-6 c = search needs
+
+slice-write-definitions-6 : tie.Need-slice-write-definitions-6
+slice-write-definitions-6 c = simp length-set (omega arith)
+
+add-definitions-6 : tie.Need-add-definitions-6
+add-definitions-6 c = search needs
+
+mul-definitions-7 : tie.Need-mul-definitions-7
+mul-definitions-7 c = search needs
+
+slice-write-definitions-7 : tie.Need-slice-write-definitions-7
+slice-write-definitions-7 c = simp length-set (omega arith)
+
 same-length : tie.Need-same-length
 same-length c = search needs
 
 returns-3 : tie.Need-returns-3
-returns-3 c = search five-words
+returns-3 c = search definition-words
 
 pub put-definition-spec : {M : Type 1} → statement M
 put-definition-spec =
@@ -80,5 +98,11 @@ put-definition-spec =
     add-definitions-4
     mul-definitions-5
     slice-write-definitions-5
+    add-definitions-5
+    mul-definitions-6
+    slice-write-definitions-6
+    add-definitions-6
+    mul-definitions-7
+    slice-write-definitions-7
     same-length
     returns-3)

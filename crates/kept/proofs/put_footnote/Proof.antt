@@ -1,10 +1,10 @@
 -- Where the table has the row. Assumes nothing.
 use native.Mathlib.Omega.{arith}
 use lib.ListN.{length-set}
+use Rattle.kept.proofs.Put.{no-table, no-row, footnote-words}
 use borrow.Author.Needs.{needs}
 use Rattle.kept.proofs.put_footnote.Statement.{statement}
 use Rattle.kept.proofs.put_footnote.Tie as tie
-use Rattle.kept.proofs.Put.{no-table, no-row, four-words}
 
 returns : tie.Need-returns
 returns c = search no-table
@@ -45,11 +45,29 @@ mul-footnotes-4 c = search needs
 slice-write-footnotes-4 : tie.Need-slice-write-footnotes-4
 slice-write-footnotes-4 c = simp length-set (omega arith)
 
+add-footnotes-4 : tie.Need-add-footnotes-4
+add-footnotes-4 c = search needs
+
+mul-footnotes-5 : tie.Need-mul-footnotes-5
+mul-footnotes-5 c = search needs
+
+slice-write-footnotes-5 : tie.Need-slice-write-footnotes-5
+slice-write-footnotes-5 c = simp length-set (omega arith)
+
+add-footnotes-5 : tie.Need-add-footnotes-5
+add-footnotes-5 c = search needs
+
+mul-footnotes-6 : tie.Need-mul-footnotes-6
+mul-footnotes-6 c = search needs
+
+slice-write-footnotes-6 : tie.Need-slice-write-footnotes-6
+slice-write-footnotes-6 c = simp length-set (omega arith)
+
 same-length : tie.Need-same-length
 same-length c = search needs
 
 returns-3 : tie.Need-returns-3
-returns-3 c = search four-words
+returns-3 c = search footnote-words
 
 pub put-footnote-spec : {M : Type 1} → statement M
 put-footnote-spec =
@@ -68,5 +86,11 @@ put-footnote-spec =
     add-footnotes-3
     mul-footnotes-4
     slice-write-footnotes-4
+    add-footnotes-4
+    mul-footnotes-5
+    slice-write-footnotes-5
+    add-footnotes-5
+    mul-footnotes-6
+    slice-write-footnotes-6
     same-length
     returns-3)

@@ -22,7 +22,7 @@ same-length-2 c = search needs
 returns-2 : tie.Need-returns-2
 returns-2 c =
     let c1 = c .before .before .before .before .before in
-    keeps-body (c1 .keep-footnote .ensures) (c .drop .ensures) (c1 .keep-footnote .kept .1 .1 .1 .0)
+    keeps-body (c1 .keep-footnote .ensures) (c .drop .ensures) (c1 .keep-footnote .kept .1 .1 .1 .1 .0)
 
 pub keep-body-spec : {M : Type 1} → statement M
 keep-body-spec =

@@ -1,8 +1,8 @@
--- By how the slice lies in the text. Assumes nothing.
-use Rattle.check_labels.proofs.Steps.{slice-crossed, slice-behind, slice-cut}
+-- By how the column lies in the table. Assumes nothing.
+use Rattle.kept.proofs.Rows.{column-behind, column-cut, column-all}
 use borrow.Author.Needs.{needs}
-use Rattle.check_labels.proofs.slice.Statement.{statement}
-use Rattle.check_labels.proofs.slice.Tie as tie
+use Rattle.kept.proofs.column_at.Statement.{statement}
+use Rattle.kept.proofs.column_at.Tie as tie
 
 sub-result : tie.Need-sub-result
 sub-result c = search needs
@@ -14,7 +14,13 @@ part-result-end : tie.Need-part-result-end
 part-result-end c = search needs
 
 returns : tie.Need-returns
-returns c = search slice-crossed
+returns c = search column-behind
+
+sub-if2 : tie.Need-sub-if2
+sub-if2 c = search needs
+
+mul-result : tie.Need-mul-result
+mul-result c = search needs
 
 sub-result-2 : tie.Need-sub-result-2
 sub-result-2 c = search needs
@@ -26,7 +32,13 @@ part-result-end-2 : tie.Need-part-result-end-2
 part-result-end-2 c = search needs
 
 returns-2 : tie.Need-returns-2
-returns-2 c = search slice-behind
+returns-2 c = search column-cut
+
+add-end : tie.Need-add-end
+add-end c = search needs
+
+mul-result-2 : tie.Need-mul-result-2
+mul-result-2 c = search needs
 
 sub-result-3 : tie.Need-sub-result-3
 sub-result-3 c = search needs
@@ -38,33 +50,25 @@ part-result-end-3 : tie.Need-part-result-end-3
 part-result-end-3 c = search needs
 
 returns-3 : tie.Need-returns-3
-returns-3 c = search slice-cut
+returns-3 c = search column-all
 
-part-result-start-4 : tie.Need-part-result-start-4
-part-result-start-4 c = search needs
-
-part-result-end-4 : tie.Need-part-result-end-4
-part-result-end-4 c = search needs
-
-returns-4 : tie.Need-returns-4
-returns-4 c = search needs
-
-pub slice-spec : {M : Type 1} → statement M
-slice-spec =
+pub column-at-spec : {M : Type 1} → statement M
+column-at-spec =
     tie.close
     (tie.spec
     sub-result
     part-result-start
     part-result-end
     returns
+    sub-if2
+    mul-result
     sub-result-2
     part-result-start-2
     part-result-end-2
     returns-2
+    add-end
+    mul-result-2
     sub-result-3
     part-result-start-3
     part-result-end-3
-    returns-3
-    part-result-start-4
-    part-result-end-4
-    returns-4)
+    returns-3)

@@ -4,17 +4,20 @@ use Prim.Native.Nat.{_-_}
 use lib.ListN.{length}
 use Rattle.normalize_identifier.specs.Identity.{identityOf, leftAt}
 use Rattle.normalize_identifier.proofs.Laws.{forward-more}
-use Rattle.check_labels.specs.Signature.{signatureFrom, signatureOf}
-use Rattle.check_labels.proofs.Signatures.{signature-start, signature-more, signature-end}
+use Rattle.signature.specs.Signature.{signatureFrom, signatureOf}
+use Rattle.signature.proofs.Laws.{signature-start, signature-more, signature-end}
 use borrow.Author.Needs.{needs}
-use Rattle.check_labels.proofs.signature.Statement.{statement}
-use Rattle.check_labels.proofs.signature.Tie as tie
+use Rattle.signature.proofs.sign.Statement.{statement}
+use Rattle.signature.proofs.sign.Tie as tie
 
 abbrev Inv-loop : tie.InvT-loop
 Inv-loop label c₀ s₀ c s = signatureFrom s (leftAt label c) ≡ signatureOf (identityOf label)
 
 abbrev μ-loop : tie.MeasureT-loop
 μ-loop label c₀ s₀ c s = length label - c .at
+
+start-requires : tie.Need-start-requires Inv-loop μ-loop
+start-requires c κs = search needs
 
 loop-holds : tie.Need-loop-holds Inv-loop μ-loop
 loop-holds c = search signature-start
@@ -40,12 +43,13 @@ loop-less c = search forward-more
 loop-again : tie.Need-loop-again Inv-loop μ-loop
 loop-again c = search signature-more
 
-pub signature-spec : {M : Type 1} → statement M
-signature-spec =
+pub sign-spec : {M : Type 1} → statement M
+sign-spec =
     tie.close
     (tie.spec
     Inv-loop
     μ-loop
+    start-requires
     loop-holds
     next-requires
     enum-known-b
