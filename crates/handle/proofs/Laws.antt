@@ -48,16 +48,16 @@ module _ (e : Event) {x r : Bool} (q : x ≡ isEnter e) (n : e .name ≤ 255) wh
 
 -- ---- the context alone
 
-module _ {text events : List ℕ} {o : Options} {i : ℕ} {e : Event} {c r : Context} {captures starts out captures′ starts′ out′ : List ℕ} {x : Bool} (q : x ≡ isEnter e) where
-  pub quiet-enter : x ≡ true → Enters.Enters e (o .«allow_dangerous_html») c captures starts out r captures′ starts′ out′ → Quietly text events o i e c captures starts out r captures′ starts′ out′
-  quiet-enter z k = record { quietly = λ y. k .enters (sym q ∙ z) text events o i y refl }
+module _ {text events : List ℕ} {o : Options} {i : ℕ} {e : Event} {c r : Context} {captures starts out captures′ starts′ out′ : List ℕ} where
+  pub quiet-enter : isEnter e ≡ true → Enters.Enters e (o .«allow_dangerous_html») c captures starts out r captures′ starts′ out′ → Quietly text events o i e c captures starts out r captures′ starts′ out′
+  quiet-enter z k = record { quietly = λ y. k .enters z text events o i y refl }
 
-  module _ {l : Bool} (z : x ≡ false) (p : l ≡ ExitsText.isText (e .name)) where
+  module _ {l : Bool} (z : isEnter e ≡ false) (p : l ≡ ExitsText.isText (e .name)) where
     pub quiet-text : l ≡ true → ExitsText.Exits text events o i e c captures starts out r captures′ starts′ out′ → Quietly text events o i e c captures starts out r captures′ starts′ out′
-    quiet-text a k = record { quietly = λ y. k .exits y (sym q ∙ z) (sym p ∙ a) }
+    quiet-text a k = record { quietly = λ y. k .exits y z (sym p ∙ a) }
 
     pub quiet-flow : l ≡ false → ExitsFlow.Exits text events i e c captures starts out r captures′ starts′ out′ → Quietly text events o i e c captures starts out r captures′ starts′ out′
-    quiet-flow a k = record { quietly = λ y. k .exits o y (sym q ∙ z) (sym p ∙ a) }
+    quiet-flow a k = record { quietly = λ y. k .exits o y z (sym p ∙ a) }
 
 -- ---- the whole
 

@@ -3,7 +3,7 @@ use mathlib.Core.Path.{_≡_, refl, sym, ap, _∙_}
 use mathlib.Core.Bool.{Bool, true, false, not, _||_}
 use mathlib.Core.Logic.{_⊎_, inl, inr, ⊎-elim}
 use mathlib.Core.List.{List, _++_}
-use Prim.Native.Nat.{ℕ, _+_, _/_, _≤_, _<_}
+use Prim.Native.Nat.{ℕ, _+_, _-_, _/_, _≤_, _<_}
 use native.Mathlib.Omega.{arith}
 use borrow.Author.Tests.{ne-eqb}
 use lib.Dec.{eqb}
@@ -16,11 +16,12 @@ use Rattle.whole.specs.Whole.{World}
 use Rattle.whole.proofs.Parts.{front-long, as-long}
 use Rattle.turns.specs.Loud.{Turned}
 use Rattle.turns.specs.Passing.{isHere, staysInside}
+use Rattle.passes.specs.declared.Place.{Place}
 use Rattle.passes.specs.declared.Passed.the-variants.{On, Over}
 use Rattle.passes.specs.Lacking.{Lacks}
 use Rattle.idle.specs.Idle.{Idles}
 use Rattle.passes.specs.Passing.{wanted, Passes}
-use Rattle.passes.specs.Private.{Steps, Leaves}
+use Rattle.passes.specs.Private.{Steps, Leaves, Walks, Ahead, Stays}
 use Rattle.passes.proofs.Passing.{starts-so, skips, stays-so, goes-by, refuses-at, ends-so}
 
 -- ---- where an event is
@@ -89,21 +90,44 @@ lent-same captures work p l q = lent-long captures work p l ∙ sym l ∙ q
 -- ---- steps
 
 module _ {first : Bool} {text events : List ℕ} {o : Options} where
-  pub steps-start : {b : Whole} {w : World} → Steps first text events o b w false 0 b w
+  steps-start : {b : Whole} {w : World} → Steps first text events o b w false 0 b w
   steps-start = record { reached = starts-so; long = refl }
+
+  pub stays-start : {b : Whole} {w : World} → Stays first text events o b w false 0 0 b w
+  stays-start = record { on = λ z. steps-start; past = λ z. absurd (z refl); over = λ z. absurd (z refl) }
 
   pub all-steps : {b : Whole} {w : World} {inside : Bool} {i : ℕ} {r : Whole} {w′ : World} → length events / 20 ≤ i → Steps first text events o b w inside i r w′ → Passes first text events o b w (On r) w′
   all-steps {inside = inside} {i} h x = record { passes = ends-so first o inside i h (x .reached) }
 
-  module _ {b : Whole} {w : World} {inside next : Bool} {i : ℕ} {r : Whole} {w′ : World} {x : Bool} (h : i < length events / 20) (m : next ≡ staysInside inside (eventAt events i)) (l : Leaves first inside (eventAt events i) x) (k : Steps first text events o b w inside i r w′) where
-    pub left-out : x ≡ true → Steps first text events o b w next (i + 1) r w′
-    left-out q =
+  module _ {b : Whole} {w : World} {inside : Bool} {i : ℕ} {r : Whole} {w′ : World} (h : i < length events / 20) (k : Steps first text events o b w inside i r w′) where
+    pub left-out : {next x : Bool} → next ≡ staysInside inside (eventAt events i) → Leaves first inside (eventAt events i) x → x ≡ true → Steps first text events o b w next (i + 1) r w′
+    left-out m l q =
         ⊎-elim (λ z. rw m (record { reached = stays-so first o inside i h (k .reached) (l .left q z) z; long = k .long })) (λ z. rw m (record { reached = skips first o inside i h (k .reached) z; long = k .long }))
         (either (wanted first inside (eventAt events i)))
 
-    module _ {u : Whole} {w″ : World} {number : ℕ} (q : x ≡ false) (t : Turned text events o i r w′ u w″) (n : length (w″ .out) ≡ length (w′ .out)) (a : Lacks u (length (w″ .out)) number) where
-      pub stepped : number ≡ 0 → Steps first text events o b w next (i + 1) u w″
-      stepped z = rw m (record { reached = goes-by first o inside i h (k .reached) (l .taken q) t n (rw (← (n ∙ k .long), ← z) a); long = n ∙ k .long })
+    module _ {next : Bool} (m : next ≡ staysInside inside (eventAt events i)) (l : wanted first inside (eventAt events i) ≡ true) {u : Whole} {w″ : World} {number : ℕ} (t : Turned text events o i r w′ u w″) (n : length (w″ .out) ≡ length (w′ .out)) (a : Lacks u (length (w″ .out)) number) where
+      stepped : number ≡ 0 → Steps first text events o b w next (i + 1) u w″
+      stepped z = rw m (record { reached = goes-by first o inside i h (k .reached) l t n (rw (← (n ∙ k .long), ← z) a); long = n ∙ k .long })
 
-      pub over-here : (number ≡ 0 → ⊥) → Passes first text events o b w (Over number (record { 0 = i })) w″
-      over-here z = record { passes = record { refused-so = refuses-at first o inside i h (k .reached) (l .taken q) t n (rw (← (n ∙ k .long)) a) z; kinds = a .kinds z } }
+      over-here : (number ≡ 0 → ⊥) → Passes first text events o b w (Over number (record { 0 = i })) w″
+      over-here z = record { passes = record { refused-so = refuses-at first o inside i h (k .reached) l t n (rw (← (n ∙ k .long)) a) z; kinds = a .kinds z } }
+
+      -- the event is done
+      pub stays : Stays first text events o b w next (i + 1) number u w″
+      stays = record { on = stepped; past = λ z. omega arith; over = λ z. let e : i + 1 - 1 ≡ i = omega arith in rw e (over-here z) }
+
+-- ---- on to the next event
+
+module _ {first : Bool} {events : List ℕ} where
+  pub walks-start : {inside : Bool} {i : ℕ} → Walks first events inside i inside i
+  walks-start = record { goes = λ k. k; later = omega arith }
+
+  module _ {p : Place} {inside : Bool} {i : ℕ} (k : Walks first events (p .inside) (p .at) inside i) where
+    pub walks-on : {next x : Bool} → i < length events / 20 → next ≡ staysInside inside (eventAt events i) → Leaves first inside (eventAt events i) x → x ≡ true → Walks first events (p .inside) (p .at) next (i + 1)
+    walks-on h m l q = let z = k .later in record { goes = λ s. left-out h (k .goes s) m l q; later = omega arith }
+
+    pub ahead-here : {x : Bool} → Leaves first inside (eventAt events i) x → x ≡ false → Ahead first events p (record { at = i; inside = inside })
+    ahead-here l q = record { walks = k; here = λ h. l .taken q }
+
+    pub ahead-end : length events / 20 ≤ i → Ahead first events p (record { at = i; inside = inside })
+    ahead-end n = record { walks = k; here = λ h. absurd (omega arith) }

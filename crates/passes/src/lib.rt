@@ -8,7 +8,7 @@ ghost use Rattle.turns.specs.Loud.{world};
 ghost use Rattle.turns.specs.Passing.{isHere, staysInside};
 ghost use Rattle.passes.specs.Lacking.{Lacks};
 ghost use Rattle.passes.specs.Passing.{wanted, Passes};
-ghost use Rattle.passes.specs.Private.{Leaves};
+ghost use Rattle.passes.specs.Private.{Leaves, Ahead};
 use event::Event;
 use event::EventIndex;
 use machine::Options;
@@ -18,6 +18,12 @@ use whole::Whole;
 pub enum Passed {
     On(Whole),
     Over(usize, EventIndex),
+}
+
+// Where a pass stands: before the event at an index, inside a definition or not.
+pub struct Place {
+    pub at: usize,
+    pub inside: bool,
 }
 
 // The number of the refusal where something lacks room, 8 before 9; else 0.
@@ -93,6 +99,25 @@ fn is_left(first: bool, inside: bool, events: &[u8], i: EventIndex) -> bool
     true
 }
 
+// The first event from a place on at which something is to be done, or the end.
+fn ahead(first: bool, p: Place, events: &[u8]) -> Place
+    ensures { λ r. ⌜ Ahead first (now (events .entry)) p r ⌝ }
+{
+    let n = event::count(events);
+    let mut at = p.at;
+    let mut inside = p.inside;
+    while at < n {
+        let i = EventIndex(at);
+        if is_left(first, inside, events, i) {
+            inside = stays_inside(inside, events, i);
+            at += 1;
+            continue;
+        }
+        return Place { at, inside };
+    }
+    Place { at, inside }
+}
+
 // The events of definitions, or all others, in order, up to the first after which there is no room.
 pub fn pass(
     b: Whole,
@@ -113,16 +138,20 @@ pub fn pass(
 {
     let n = event::count(events);
     let mut r = b;
-    let mut inside = false;
-    let mut i: usize = 0;
-    while i < n {
-        let at = EventIndex(i);
-        let left = is_left(first, inside, events, at);
-        inside = stays_inside(inside, events, at);
-        i += 1;
-        if left {
-            continue;
+    let mut p = Place {
+        at: 0,
+        inside: false,
+    };
+    let mut number: usize = 0;
+    while number == 0 {
+        let next = ahead(first, p, events);
+        let i = next.at;
+        if n <= i {
+            return Passed::On(r);
         }
+        let at = EventIndex(i);
+        let inside = stays_inside(next.inside, events, at);
+        p = Place { at: i + 1, inside };
         let e = Event::read(events, at);
         if handle::is_whole(e) {
             r = handle::handle_whole(
@@ -138,19 +167,28 @@ pub fn pass(
                 calls,
                 labels,
             );
-            let number = lack(r, out.len());
-            if number != 0 {
-                return Passed::Over(number, at);
-            }
+            number = lack(r, out.len());
             continue;
         }
         let c = r.context;
         let captures = &mut work[0..16384];
-        r.context = handle::handle(c, text, events, at, e, options, captures, starts, out);
-        let number = lack(r, out.len());
-        if number != 0 {
-            return Passed::Over(number, at);
+        if e.is_enter() {
+            r.context = handle::handle_enter(
+                c,
+                text,
+                events,
+                at,
+                e,
+                options,
+                captures,
+                starts,
+                out,
+            );
+            number = lack(r, out.len());
+            continue;
         }
+        r.context = handle::handle_exit(c, text, events, at, e, options, captures, starts, out);
+        number = lack(r, out.len());
     }
-    Passed::On(r)
+    Passed::Over(number, EventIndex(p.at - 1))
 }
