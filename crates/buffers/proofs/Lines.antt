@@ -12,14 +12,13 @@ use lib.ListN.{length, take, drop, getD, length-append, length-take}
 use lib.Seq.{getD-take, getD-append-add}
 use Rattle.lent.specs.Bytes.{if_then_else_}
 use Rattle.lent.specs.Fill.{fill, past, Filled}
-use Rattle.lent.proofs.Laws.{both}
 use Rattle.machine.specs.declared.Ending.{Ending}
 use Rattle.machine.specs.declared.Ending.the-variants.{Lf, Cr, CrLf}
 use Rattle.machine.specs.State.{State}
 use Rattle.machine.specs.Buffers.{push, endLine, endLineIfNeeded, endingBytes, isEol, lastOr, newestOf}
 use Rattle.buffers.specs.declared.Buffers.{Buffers}
-use Rattle.buffers.specs.Stand.{Holds, flat, Saved, Starts, Stand, Keeps, KeepsBy}
-use Rattle.buffers.specs.Private.{endsLine, atLineStart}
+use Rattle.buffers.specs.Stand.{Holds, flat, Saved, Starts, Stand, Keeps, KeepsBy, endLineBy}
+use Rattle.buffers.specs.Private.{endsLine, atLineStart, needless}
 use Rattle.buffers.proofs.Laws.{withPage, withEnd, holds-place, holds-fits, holds-full, push-nil, push-cons, push-page, push-capture}
 
 -- ---- the last byte
@@ -145,12 +144,14 @@ module _ (b : Buffers) (ending : Ending) (captures out : List ℕ) where
   pub end-capture : (e : List ℕ) (r : ℕ) → (b .depth ≡ 0 → ⊥) → Filled captures (b .end) (endingBytes ending) e r → KeepsBy ending endLine b captures out (withEnd r b) e out
   end-capture e r d f = record { keeps = λ starts s p x. (rw (← ended s p) (push-capture b captures out (endingBytes ending) e r d f .keeps starts s x)) }
 
-  module _ (t : Bool) (q : t ≡ atLineStart b captures out) where
-    pub unneeded : t ≡ true → KeepsBy ending endLineIfNeeded b captures out b captures out
-    unneeded h = record { keeps = λ starts s p x. at-start b captures out starts s x (sym q ∙ h) }
+  pub unneeded : (t always : Bool) → t ≡ needless always b captures out → t ≡ true → KeepsBy ending (endLineBy always) b captures out b captures out
+  unneeded t true q h = absurd (true≢false (sym h ∙ q))
+  unneeded t false q h = record { keeps = λ starts s p x. at-start b captures out starts s x (sym q ∙ h) }
 
-    pub if-needed : (r : Buffers) (captures′ out′ : List ℕ) → t ≡ false → KeepsBy ending endLine b captures out r captures′ out′ → KeepsBy ending endLineIfNeeded b captures out r captures′ out′
-    if-needed r captures′ out′ h k = record { keeps = λ starts s p x. (rw (not-at-start b captures out starts s x (sym q ∙ h)) (k .keeps starts s p x)) }
+  pub if-needed : (t always : Bool) (r : Buffers) (captures′ out′ : List ℕ) → t ≡ needless always b captures out → t ≡ false → KeepsBy ending endLine b captures out r captures′ out′
+      → KeepsBy ending (endLineBy always) b captures out r captures′ out′
+  if-needed t true r captures′ out′ q h k = record { keeps = k .keeps }
+  if-needed t false r captures′ out′ q h k = record { keeps = λ starts s p x. (rw (not-at-start b captures out starts s x (sym q ∙ h)) (k .keeps starts s p x)) }
 
 -- ---- the inner functions
 
@@ -180,6 +181,9 @@ module _ (b : Buffers) (captures out : List ℕ) (t : Bool) where
   unfolding atLineStart
   start-of-capture d p = rw (ne-eqb (b .depth) 0 d) p
 
+  pub needless-at-start : (always : Bool) → always ≡ false → t ≡ atLineStart b captures out → t ≡ needless always b captures out
+  needless-at-start always p q = rw p q
+
 module _ (ending : Ending) {d e : List ℕ} {at r : ℕ} where
   pub ends-lf : ending ≡ Lf → Filled d at (10 ∷ []) e r → Filled d at (endingBytes ending) e r
   ends-lf p f = rw p f
@@ -187,5 +191,5 @@ module _ (ending : Ending) {d e : List ℕ} {at r : ℕ} where
   pub ends-cr : ending ≡ Cr → Filled d at (13 ∷ []) e r → Filled d at (endingBytes ending) e r
   ends-cr p f = rw p f
 
-  pub ends-crlf : {g : List ℕ} {m : ℕ} → ending ≡ CrLf → Filled d at (13 ∷ []) g m → Filled g m (10 ∷ []) e r → Filled d at (endingBytes ending) e r
-  ends-crlf p f h = rw p (both f h)
+  pub ends-crlf : ending ≡ CrLf → Filled d at (13 ∷ 10 ∷ []) e r → Filled d at (endingBytes ending) e r
+  ends-crlf p f = rw p f

@@ -1,5 +1,5 @@
 -- What the inner functions answer: no part of a promise. Assumes nothing.
-use mathlib.Core.Bool.{Bool, true}
+use mathlib.Core.Bool.{Bool, true, false}
 use mathlib.Core.List.{List}
 use Prim.Native.Nat.{ℕ, _-_}
 use lib.Dec.{eqb, leb, ltb}
@@ -15,3 +15,8 @@ endsLine d from to = if leb to from then true else if ltb (length d) to then tru
 -- that of the newest buffer
 unfoldable pub atLineStart : Buffers → (captures out : List ℕ) → Bool
 atLineStart b captures out = if eqb (b .depth) 0 then endsLine out 0 (b .page) else endsLine captures (b .start) (b .end)
+
+-- no line ending is wanted
+abbrev pub needless : (always : Bool) → Buffers → (captures out : List ℕ) → Bool
+needless true b captures out = false
+needless false b captures out = atLineStart b captures out

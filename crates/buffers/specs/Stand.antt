@@ -1,5 +1,6 @@
 -- How the page and the captures of the machine stand in the lent buffers. Assumes nothing.
 use mathlib.Core.Path.{_≡_}
+use mathlib.Core.Bool.{Bool, true, false}
 use mathlib.Core.List.{List, [], _∷_, _++_}
 use Prim.Native.Nat.{ℕ, suc, _≤_, _<_}
 use lib.ListN.{length, take, getD}
@@ -7,7 +8,7 @@ use Rattle.lent.specs.Fill.{past}
 use Rattle.machine.specs.declared.Ending.{Ending}
 use Rattle.machine.specs.State.{State}
 use Rattle.machine.specs.Set.{setCaptures}
-use Rattle.machine.specs.Buffers.{push, openCapture}
+use Rattle.machine.specs.Buffers.{push, endLine, endLineIfNeeded, openCapture}
 use Rattle.buffers.specs.declared.Buffers.{Buffers}
 
 -- a buffer holds a text up to a place, which is past its end where the text is too long
@@ -44,6 +45,11 @@ pub record Keeps (f : State → State) (b : Buffers) (captures out : List ℕ) (
 -- the same, where the line ending is the machine's
 pub record KeepsBy (ending : Ending) (f : State → State) (b : Buffers) (captures out : List ℕ) (r : Buffers) (captures′ out′ : List ℕ) : Type 0 where
   pub keeps : (starts : List ℕ) (s : State) → ending ≡ s .ending → Stand b captures starts out s → Stand r captures′ starts out′ (f s)
+
+-- a line ending, always or where it is needed
+abbrev pub endLineBy : (always : Bool) → State → State
+endLineBy true s = endLine s
+endLineBy false s = endLineIfNeeded s
 
 -- a capture is opened, where the table of starts has a place for it
 abbrev pub Opens : (b : Buffers) → (starts : List ℕ) → (r : Buffers) → (starts′ : List ℕ) → Type 0

@@ -4,9 +4,9 @@ ghost use mathlib.Core.Path.{_≡_};
 ghost use lib.ListN.{getD};
 ghost use Rattle.encode.specs.Encode.{encodeOf};
 ghost use Rattle.lent.specs.Fill.{Filled};
-ghost use Rattle.machine.specs.Buffers.{push, endLine, endLineIfNeeded, endingBytes, isEol, openCapture};
-ghost use Rattle.buffers.specs.Stand.{Keeps, KeepsBy, Opens, Drops};
-ghost use Rattle.buffers.specs.Private.{endsLine, atLineStart};
+ghost use Rattle.machine.specs.Buffers.{push, endLine, endingBytes, isEol, openCapture};
+ghost use Rattle.buffers.specs.Stand.{Keeps, KeepsBy, endLineBy, Opens, Drops};
+ghost use Rattle.buffers.specs.Private.{endsLine, atLineStart, needless};
 use machine::Ending;
 
 // The newest capture is the bytes from `start` up to `end`.
@@ -58,17 +58,13 @@ pub fn put_ending(ending: Ending, out: &mut [u8], at: usize) -> usize
     ensures { λ r. ⌜ Filled (now (out .entry)) at (endingBytes ending) (now (out .exit)) r ⌝ }
 {
     match ending {
-        Ending::Lf => lent::put(out, at, b'\n'),
-        Ending::Cr => lent::put(out, at, b'\r'),
-        Ending::CrLf => {
-            let r = lent::put(out, at, b'\r');
-            lent::put(out, r, b'\n')
-        }
+        Ending::Lf => lent::put_all(out, at, b"\n"),
+        Ending::Cr => lent::put_all(out, at, b"\r"),
+        Ending::CrLf => lent::put_all(out, at, b"\r\n"),
     }
 }
 
-// A line ending.
-pub fn line_ending(b: Buffers, ending: Ending, captures: &mut [u8], out: &mut [u8]) -> Buffers
+fn line_ending(b: Buffers, ending: Ending, captures: &mut [u8], out: &mut [u8]) -> Buffers
     ensures { λ r. ⌜ KeepsBy ending endLine b (now (captures .entry)) (now (out .entry)) r (now (captures .exit)) (now (out .exit)) ⌝ }
 {
     let mut r = b;
@@ -108,16 +104,27 @@ fn at_line_start(b: Buffers, captures: &[u8], out: &[u8]) -> bool
     ends_line(captures, b.start, b.end)
 }
 
-// A line ending, unless the newest buffer is empty or ends in one.
-pub fn line_ending_if_needed(
+// Whether no line ending is wanted: the newest buffer is empty or ends in one, and it is not wanted always.
+fn is_needless(b: Buffers, always: bool, captures: &[u8], out: &[u8]) -> bool
+    ensures { λ r. ⌜ r ≡ needless always b (now (captures .entry)) (now (out .entry)) ⌝ }
+{
+    if always {
+        return false;
+    }
+    at_line_start(b, captures, out)
+}
+
+// A line ending, always or where it is needed. One function for both has two callers, so it stays a call, and a context is copied less often.
+pub fn line_ending_by(
     b: Buffers,
+    always: bool,
     ending: Ending,
     captures: &mut [u8],
     out: &mut [u8],
 ) -> Buffers
-    ensures { λ r. ⌜ KeepsBy ending endLineIfNeeded b (now (captures .entry)) (now (out .entry)) r (now (captures .exit)) (now (out .exit)) ⌝ }
+    ensures { λ r. ⌜ KeepsBy ending (endLineBy always) b (now (captures .entry)) (now (out .entry)) r (now (captures .exit)) (now (out .exit)) ⌝ }
 {
-    if at_line_start(b, captures, out) {
+    if is_needless(b, always, captures, out) {
         return b;
     }
     line_ending(b, ending, captures, out)

@@ -122,7 +122,7 @@ pub fn line_ending(c: Context, captures: &mut [u8], out: &mut [u8]) -> Context
 {
     let mut r = c;
     let ending = c.ending;
-    r.buffers = buffers::line_ending(c.buffers, ending, captures, out);
+    r.buffers = buffers::line_ending_by(c.buffers, true, ending, captures, out);
     r
 }
 
@@ -131,7 +131,7 @@ pub fn line_ending_if_needed(c: Context, captures: &mut [u8], out: &mut [u8]) ->
 {
     let mut r = c;
     let ending = c.ending;
-    r.buffers = buffers::line_ending_if_needed(c.buffers, ending, captures, out);
+    r.buffers = buffers::line_ending_by(c.buffers, false, ending, captures, out);
     r
 }
 

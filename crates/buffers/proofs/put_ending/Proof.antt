@@ -1,4 +1,4 @@
--- By the variant; CR LF are two bytes.
+-- By the variant.
 use borrow.Author.Needs.{needs}
 use Rattle.buffers.proofs.put_ending.Statement.{statement}
 use Rattle.buffers.proofs.put_ending.Tie as tie
@@ -7,23 +7,29 @@ use Rattle.buffers.proofs.Lines.{ends-lf, ends-cr, ends-crlf}
 enum-told : tie.Need-enum-told
 enum-told c = search needs
 
-put-requires : tie.Need-put-requires
-put-requires c κs = search needs
+slice-aggregate-put-all : tie.Need-slice-aggregate-put-all
+slice-aggregate-put-all c = search needs
+
+put-all-requires : tie.Need-put-all-requires
+put-all-requires c κs = search needs
 
 enum-told-2 : tie.Need-enum-told-2
 enum-told-2 c = search needs
 
-put-requires-2 : tie.Need-put-requires-2
-put-requires-2 c κs = search needs
+slice-aggregate-put-all-2 : tie.Need-slice-aggregate-put-all-2
+slice-aggregate-put-all-2 c = search needs
+
+put-all-requires-2 : tie.Need-put-all-requires-2
+put-all-requires-2 c κs = search needs
 
 enum-told-3 : tie.Need-enum-told-3
 enum-told-3 c = search needs
 
-put-requires-3 : tie.Need-put-requires-3
-put-requires-3 c κs = search needs
+slice-aggregate-put-all-3 : tie.Need-slice-aggregate-put-all-3
+slice-aggregate-put-all-3 c = search needs
 
-put-requires-4 : tie.Need-put-requires-4
-put-requires-4 c κs = search needs
+put-all-requires-3 : tie.Need-put-all-requires-3
+put-all-requires-3 c κs = search needs
 
 same-length : tie.Need-same-length
 same-length c = search needs
@@ -48,12 +54,14 @@ put-ending-spec =
     tie.close
     (tie.spec
     enum-told
-    put-requires
+    slice-aggregate-put-all
+    put-all-requires
     enum-told-2
-    put-requires-2
+    slice-aggregate-put-all-2
+    put-all-requires-2
     enum-told-3
-    put-requires-3
-    put-requires-4
+    slice-aggregate-put-all-3
+    put-all-requires-3
     same-length
     returns
     same-length-2

@@ -4,8 +4,8 @@ use Rattle.context.proofs.line_ending_if_needed.Statement.{statement}
 use Rattle.context.proofs.line_ending_if_needed.Tie as tie
 use Rattle.context.proofs.Laws.{ending-if}
 
-line-ending-if-needed-requires : tie.Need-line-ending-if-needed-requires
-line-ending-if-needed-requires c κs = search needs
+line-ending-by-requires : tie.Need-line-ending-by-requires
+line-ending-by-requires c κs = search needs
 
 same-length : tie.Need-same-length
 same-length c = search needs
@@ -18,4 +18,4 @@ returns c = search ending-if
 
 pub line-ending-if-needed-spec : {M : Type 1} → statement M
 line-ending-if-needed-spec =
-    tie.close (tie.spec line-ending-if-needed-requires same-length same-length-2 returns)
+    tie.close (tie.spec line-ending-by-requires same-length same-length-2 returns)

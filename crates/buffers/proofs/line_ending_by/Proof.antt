@@ -1,11 +1,11 @@
--- By what the newest buffer ends in.
+-- By whether it is wanted.
 use borrow.Author.Needs.{needs}
-use Rattle.buffers.proofs.line_ending_if_needed.Statement.{statement}
-use Rattle.buffers.proofs.line_ending_if_needed.Tie as tie
+use Rattle.buffers.proofs.line_ending_by.Statement.{statement}
+use Rattle.buffers.proofs.line_ending_by.Tie as tie
 use Rattle.buffers.proofs.Lines.{unneeded, if-needed}
 
-at-line-start-requires : tie.Need-at-line-start-requires
-at-line-start-requires c κs = search needs
+is-needless-requires : tie.Need-is-needless-requires
+is-needless-requires c κs = search needs
 
 same-length : tie.Need-same-length
 same-length c = search needs
@@ -28,11 +28,11 @@ same-length-4 c = search needs
 returns-2 : tie.Need-returns-2
 returns-2 c = search if-needed
 
-pub line-ending-if-needed-spec : {M : Type 1} → statement M
-line-ending-if-needed-spec =
+pub line-ending-by-spec : {M : Type 1} → statement M
+line-ending-by-spec =
     tie.close
     (tie.spec
-    at-line-start-requires
+    is-needless-requires
     same-length
     same-length-2
     returns
