@@ -1,10 +1,13 @@
 // The checker and the build beside the crate's `compile`, on the events of the same notes; and the worst case for refusal 7.
 use crate::export::export;
 use crate::record::{written, Record};
-use crate::{measure, Side};
+#[cfg(not(count))]
+use crate::measure;
+use crate::Side;
 use markdown::to_html::compile;
 use markdown::{parser, CompileOptions, Constructs, ParseOptions};
 use std::hint::black_box;
+#[cfg(not(count))]
 use std::time::Instant;
 
 extern "C" {
@@ -42,12 +45,13 @@ fn options() -> ParseOptions {
     ParseOptions { constructs, ..ParseOptions::default() }
 }
 
-/// Blocks up to a length, as many as the checker passes.
+/// Blocks up to a length, as many as the checker passes: each block has as many events as the next.
 fn note(block: &str, length: usize) -> (String, Vec<Record>) {
-    let mut count = length.div_ceil(block.len());
+    let events = |count: usize| export(&block.repeat(count)).expect("the crate's parser takes the note");
+    let more = events(3).len() - events(2).len();
+    let mut count = length.div_ceil(block.len()).min(3_200 / more + 1);
     loop {
-        let note = block.repeat(count);
-        let records = export(&note).expect("the crate's parser takes the note");
+        let (note, records) = (block.repeat(count), events(count));
         if check(note.as_bytes(), &written(&records)) == 0 {
             return (note, records);
         }
@@ -55,52 +59,80 @@ fn note(block: &str, length: usize) -> (String, Vec<Record>) {
     }
 }
 
-/// Least times in microseconds on one note: the checker, the public call (which checks too), and the crate's `compile`.
-fn row(kind: &str, block: &str, length: usize) {
-    let (note, records) = note(block, length);
-    let events = written(&records);
-    let parsed = parser::parse(&note, &options()).expect("only MDX has errors").0;
+/// The notes: of 2 KB, 16 KB and the largest that 3,200 events allow, but none twice.
+fn notes() -> Vec<(&'static str, String, Vec<Record>)> {
+    let mut all: Vec<(&str, String, Vec<Record>)> = Vec::new();
+    for (kind, block) in KINDS {
+        for length in [2_048, 16_384, 64_000] {
+            let (note, records) = note(block, length);
+            if all.last().is_none_or(|(_, last, _)| *last != note) {
+                all.push((kind, note, records));
+            }
+        }
+    }
+    all
+}
+
+/// The checker, the public call (which checks too), and the crate's `compile`, after a look whether the pages are the same.
+fn sides(kind: &str, note: &str, records: &[Record]) -> [Side<'static>; 3] {
+    let events = written(records);
+    let parsed = parser::parse(note, &options()).expect("only MDX has errors").0;
     let page = compile(&parsed, note.as_bytes(), &CompileOptions::default());
     let (mut out, mut work) = (vec![0; page.len()], vec![0; 49_152]);
     assert_eq!(build(note.as_bytes(), &events, &mut out, &mut work), page.len() as u64, "{kind}: the length");
     assert_eq!(out, page.as_bytes(), "{kind}: the page");
-    let (bytes, list) = (note.clone().into_bytes(), events.clone());
-    let mut checks: Side = Box::new(move || assert_eq!(check(black_box(&bytes), black_box(&list)), 0));
-    let (bytes, list) = (note.clone().into_bytes(), events.clone());
-    let mut builds: Side = Box::new(move || {
-        black_box(build(black_box(&bytes), black_box(&list), black_box(&mut out), black_box(&mut work)));
+    let (bytes, list) = (note.as_bytes().to_vec(), events.clone());
+    let checks: Side<'static> = Box::new(move || assert_eq!(check(black_box(&bytes), black_box(&list)), 0));
+    let bytes = note.as_bytes().to_vec();
+    let builds: Side<'static> = Box::new(move || {
+        black_box(build(black_box(&bytes), black_box(&events), black_box(&mut out), black_box(&mut work)));
     });
-    let again = note.clone().into_bytes();
-    let mut theirs: Side = Box::new(move || {
-        black_box(compile(black_box(&parsed), black_box(&again), &CompileOptions::default()));
+    let bytes = note.as_bytes().to_vec();
+    let theirs: Side = Box::new(move || {
+        black_box(compile(black_box(&parsed), black_box(&bytes), &CompileOptions::default()));
     });
-    let (check_time, _, _) = measure(&mut checks, &mut theirs);
-    let (build_time, their_time, _) = measure(&mut builds, &mut theirs);
-    println!(
-        "{kind:<10} {:>6}  {:>6}  {:>8.1}  {:>8.1}  {:>8.1}  {:>10.1}  {:>7.3}  {:>7.3}  {:>8.3}",
-        note.len(),
-        records.len(),
-        check_time / 1_000.0,
-        (build_time - check_time) / 1_000.0,
-        build_time / 1_000.0,
-        their_time / 1_000.0,
-        check_time / their_time,
-        (build_time - check_time) / their_time,
-        build_time / their_time
-    );
+    [checks, builds, theirs]
 }
 
-pub fn print_rows() {
-    println!("note        bytes  events  check us  build us   both us  compile us    check    build      both");
-    for (kind, block) in KINDS {
-        for length in [2_048, 16_384, 64_000] {
-            row(kind, block, length);
+/// For each note the checker, both, and `compile`: each is counted.
+#[cfg(count)]
+pub fn count_rows() {
+    for (kind, note, records) in notes() {
+        for side in &mut sides(kind, &note, &records) {
+            crate::counted(side);
         }
+    }
+}
+
+/// Least times in microseconds; and the ratios, by time and by instructions, of which there are three to a note.
+#[cfg(not(count))]
+pub fn print_rows(instructions: &[f64]) {
+    println!("note        bytes  events  check us  build us   both us  compile us    check    build      both  instructions: build    both");
+    for (k, (kind, note, records)) in notes().into_iter().enumerate() {
+        let [mut checks, mut builds, mut theirs] = sides(kind, &note, &records);
+        let (check_time, _, _) = measure(&mut checks, &mut theirs);
+        let (both_time, their_time, _) = measure(&mut builds, &mut theirs);
+        let build_time = both_time - check_time;
+        let counts = instructions.get(3 * k..3 * k + 3);
+        let by_count = counts.map_or("-".to_string(), |c| format!("{:>20.3}  {:>6.3}", (c[1] - c[0]) / c[2], c[1] / c[2]));
+        println!(
+            "{kind:<10} {:>6}  {:>6}  {:>8.1}  {:>8.1}  {:>8.1}  {:>10.1}  {:>7.3}  {:>7.3}  {:>8.3}  {by_count}",
+            note.len(),
+            records.len(),
+            check_time / 1_000.0,
+            build_time / 1_000.0,
+            both_time / 1_000.0,
+            their_time / 1_000.0,
+            check_time / their_time,
+            build_time / their_time,
+            both_time / their_time
+        );
     }
     print_worst();
 }
 
 /// 128 definitions, and links that all mean the last one: labels of some 60,000 bytes that differ at their end.
+#[cfg(not(count))]
 fn print_worst() {
     let text = vec![b'a'; 64_000];
     let mut records = Vec::new();

@@ -3,15 +3,12 @@
 #[allow(dead_code)]
 #[path = "../tools/oracle/src/bundle.rs"]
 mod bundle;
-#[cfg(not(count))]
 mod checker;
-#[cfg(not(count))]
 #[allow(dead_code, unused_imports, unused_macros)]
 #[path = "../tools/oracle/src/export.rs"]
 mod export;
 #[path = "../tools/oracle/src/random.rs"]
 mod random;
-#[cfg(not(count))]
 #[allow(dead_code, unused_imports, unused_macros)]
 #[path = "../tools/oracle/src/record.rs"]
 mod record;
@@ -192,23 +189,30 @@ extern "C" {
 }
 
 #[cfg(count)]
+fn counted(side: &mut Side) {
+    unsafe { count_from_here() };
+    side();
+    unsafe { count_to_here() };
+}
+
+#[cfg(count)]
 fn main() {
     for row in rows() {
         let (mut ours, mut theirs) = sides(&row);
-        for side in [&mut ours, &mut theirs] {
-            unsafe { count_from_here() };
-            side();
-            unsafe { count_to_here() };
-        }
+        counted(&mut ours);
+        counted(&mut theirs);
     }
+    checker::count_rows();
 }
 
 #[cfg(not(count))]
 fn main() {
     let file = std::env::args().nth(1).expect("usage: harness INSTRUCTIONS");
-    print_table(&std::fs::read_to_string(file).expect("the file of instructions can be read"));
+    let lines = std::fs::read_to_string(file).expect("the file of instructions can be read");
+    let counts: Vec<f64> = lines.lines().map(|line| line.parse().unwrap()).collect();
+    print_table(&counts);
     print_reader();
-    checker::print_rows();
+    checker::print_rows(counts.get(2 * rows().len()..).unwrap_or(&[]));
 }
 
 /// The largest bundle, read; and the same bytes copied and no more.
@@ -231,9 +235,9 @@ fn print_reader() {
     println!("bundle of {bytes} bytes: read {:.1} bytes/ns, a plain copy {:.1}", bytes / our_time, bytes / copy_time);
 }
 
-/// `instructions` has a line for each side of each row, in their order, or nothing.
-fn print_table(instructions: &str) {
-    let counts: Vec<f64> = instructions.lines().map(|line| line.parse().unwrap()).collect();
+/// `counts` begins with the instructions of each side of each row, in their order, or is empty.
+#[cfg(not(count))]
+fn print_table(counts: &[f64]) {
     println!("call           input           room  ours ns/B  crate ns/B  least  median  instructions");
     for (k, row) in rows().iter().enumerate() {
         let (mut ours, mut theirs) = sides(row);

@@ -19,7 +19,7 @@ pub fn on_enter_destination_string(c: Context, starts: &mut [usize]) -> Context
     context::set_encode(r, false)
 }
 
-pub fn on_enter_footnote_definition(c: Context) -> Context
+pub fn on_enter_gfm_footnote_definition(c: Context) -> Context
     ensures { λ r. ⌜ Sets onEnterGfmFootnoteDefinition c r ⌝ }
 {
     context::tighten(c, false)
@@ -106,7 +106,7 @@ fn enter_gfm(
         Event::GFM_TABLE_BODY => on_table::on_enter_gfm_table_body(c, captures, out),
         Event::GFM_TABLE_ROW => on_cell::on_enter_gfm_table_row(c, captures, out),
         Event::GFM_TABLE_CELL => on_cell::on_enter_gfm_table_cell(c, captures, starts, out),
-        Event::GFM_FOOTNOTE_DEFINITION => on_enter_footnote_definition(c),
+        Event::GFM_FOOTNOTE_DEFINITION => on_enter_gfm_footnote_definition(c),
         Event::GFM_FOOTNOTE_DEFINITION_PREFIX => on_text::on_enter_buffer(c, starts),
         _ => c,
     }

@@ -14,7 +14,7 @@ use event::Event;
 use event::EventIndex;
 
 // Of a footnote definition: the prefix is dropped; everything until the end of the definition is captured.
-pub fn on_exit_prefix(c: Context, starts: &mut [usize]) -> Context
+pub fn on_exit_gfm_footnote_definition_prefix(c: Context, starts: &mut [usize]) -> Context
     ensures { λ r. ⌜ Renews onExitGfmFootnoteDefinitionPrefix c (now (starts .entry)) r (now (starts .exit)) ⌝ }
 {
     let r = context::drop(c, starts);
@@ -124,7 +124,7 @@ fn exit_table(
         Event::GFM_TABLE_BODY => on_table::on_exit_gfm_table_body(c, captures, out),
         Event::GFM_TABLE_ROW => on_cell::on_exit_gfm_table_row(c, captures, out),
         Event::GFM_TABLE_CELL => on_cell::on_exit_gfm_table_cell(c, captures, starts, out),
-        Event::GFM_FOOTNOTE_DEFINITION_PREFIX => on_exit_prefix(c, starts),
+        Event::GFM_FOOTNOTE_DEFINITION_PREFIX => on_exit_gfm_footnote_definition_prefix(c, starts),
         _ => c,
     }
 }

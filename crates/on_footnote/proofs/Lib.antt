@@ -1,4 +1,3 @@
-pub mod Lifted
 pub mod Labels
 pub mod Bodies
 pub mod Calls

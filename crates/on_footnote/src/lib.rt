@@ -1,8 +1,8 @@
 // Handlers of footnotes, by their Rust names.
-ghost use Rattle.machine.specs.OnFootnote.{onEnterGfmFootnoteCall, onExitGfmFootnoteCall, onEnterGfmFootnoteDefinition, onExitGfmFootnoteDefinitionLabelString, onExitGfmFootnoteDefinitionPrefix, onExitGfmFootnoteDefinition};
+ghost use Rattle.machine.specs.OnFootnote.{onEnterGfmFootnoteCall, onExitGfmFootnoteCall, onExitGfmFootnoteDefinitionLabelString, onExitGfmFootnoteDefinition};
 ghost use Rattle.machine.specs.Command.{keepFootnote};
 ghost use Rattle.context.specs.Rel.{Any};
-ghost use Rattle.whole.specs.Whole.{Always, Held, Roomy, Unlent, OnStarts};
+ghost use Rattle.whole.specs.Whole.{Always, Held, Roomy, Unlent};
 ghost use Rattle.on_footnote.specs.Footnotes.{IsEvent, OnLabels, OnFootnotes, OnCalls};
 ghost use Rattle.on_footnote.specs.Private.{CallsLabel, WritesCall};
 use buffers::Buffers;
@@ -98,14 +98,6 @@ fn write_call(
 
 // ---- definitions
 
-pub fn on_enter_gfm_footnote_definition(b: Whole) -> Whole
-    ensures { λ r. ⌜ Unlent Always Any onEnterGfmFootnoteDefinition b r ⌝ }
-{
-    let mut r = b;
-    r.context = context::tighten(b.context, false);
-    r
-}
-
 pub fn on_exit_gfm_footnote_definition_label_string(
     b: Whole,
     e: Event,
@@ -115,16 +107,6 @@ pub fn on_exit_gfm_footnote_definition_label_string(
 {
     let mut r = b;
     r.kept = kept::open_label(b.kept, e.from.0, e.to.0, labels);
-    r
-}
-
-// The prefix goes; everything until the end of the definition is captured.
-pub fn on_exit_gfm_footnote_definition_prefix(b: Whole, starts: &mut [usize]) -> Whole
-    ensures { λ r. ⌜ OnStarts Roomy Any onExitGfmFootnoteDefinitionPrefix b (now (starts .entry)) r (now (starts .exit)) ⌝ }
-{
-    let mut r = b;
-    let c = context::drop(b.context, starts);
-    r.context = context::open(c, starts);
     r
 }
 

@@ -5,7 +5,7 @@ ghost use Prim.Native.Nat.{_-_};
 ghost use Rattle.machine.specs.Set.{encode};
 ghost use Rattle.machine.specs.Media.{destination, referenceId};
 ghost use Rattle.machine.specs.Command.{_▸_, buffer, drop, set, store, identify};
-ghost use Rattle.machine.specs.OnMedia.{onEnterLink, onEnterImage, onExitLabel, onExitLabelText, onExitReferenceString, onEnterResource, onEnterResourceDestinationString, onExitResourceDestinationString, onExitResourceTitleString, onEnterDefinition, onExitDefinitionLabelString, onEnterDefinitionDestinationString, onExitDefinitionDestinationString, onExitDefinitionTitleString};
+ghost use Rattle.machine.specs.OnMedia.{onEnterLink, onEnterImage, onExitLabel, onExitLabelText, onExitReferenceString, onEnterResource, onExitResourceDestinationString, onExitResourceTitleString, onEnterDefinition, onExitDefinitionLabelString, onExitDefinitionDestinationString, onExitDefinitionTitleString};
 ghost use Rattle.machine.specs.Media as M;
 ghost use Rattle.context.specs.Rel.{Any};
 ghost use Rattle.whole.specs.Whole.{Always, Roomy, Unlent, FromStarts, OnStarts, OnWork};
@@ -102,16 +102,6 @@ pub fn on_enter_resource(b: Whole, starts: &mut [usize]) -> Whole
     r
 }
 
-// A URL is encoded when it is written.
-fn open_destination(b: Whole, starts: &mut [usize]) -> Whole
-    ensures { λ r. ⌜ OnStarts Always Any (buffer ▸ set encode false) b (now (starts .entry)) r (now (starts .exit)) ⌝ }
-{
-    let mut r = b;
-    let c = context::open(b.context, starts);
-    r.context = context::set_encode(c, false);
-    r
-}
-
 fn store_destination(b: Whole, work: &mut [u8], starts: &[usize]) -> Whole
     ensures { λ r. ⌜ OnWork Roomy Any (store destination ▸ set encode true) b (now (work .entry)) (now (starts .entry)) r (now (work .exit)) ⌝ }
 {
@@ -136,12 +126,6 @@ fn store_title(b: Whole, work: &mut [u8], starts: &[usize]) -> Whole
     c.buffers = buffers::drop(b.context.buffers, starts);
     r.context = c;
     r
-}
-
-pub fn on_enter_resource_destination_string(b: Whole, starts: &mut [usize]) -> Whole
-    ensures { λ r. ⌜ OnStarts Always Any onEnterResourceDestinationString b (now (starts .entry)) r (now (starts .exit)) ⌝ }
-{
-    open_destination(b, starts)
 }
 
 pub fn on_exit_resource_destination_string(b: Whole, work: &mut [u8], starts: &[usize]) -> Whole
@@ -171,12 +155,6 @@ pub fn on_exit_definition_label_string(b: Whole, e: Event, starts: &[usize]) -> 
     ensures { λ r. ⌜ FromStarts Roomy (Handled e) onExitDefinitionLabelString b (now (starts .entry)) r ⌝ }
 {
     identify_reference(b, e, starts)
-}
-
-pub fn on_enter_definition_destination_string(b: Whole, starts: &mut [usize]) -> Whole
-    ensures { λ r. ⌜ OnStarts Always Any onEnterDefinitionDestinationString b (now (starts .entry)) r (now (starts .exit)) ⌝ }
-{
-    open_destination(b, starts)
 }
 
 pub fn on_exit_definition_destination_string(b: Whole, work: &mut [u8], starts: &[usize]) -> Whole

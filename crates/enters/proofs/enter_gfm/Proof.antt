@@ -31,7 +31,7 @@ returns-5 c = let at = c .before .before .before .before .before .before in open
 
 returns-6 : tie.Need-returns-6
 unfolding rows
-returns-6 c = arm 63 (c .before .match .keys6) refl (from-sets (c .on-enter-footnote-definition .ensures))
+returns-6 c = arm 63 (c .before .match .keys6) refl (from-sets (c .on-enter-gfm-footnote-definition .ensures))
 
 returns-7 : tie.Need-returns-7
 unfolding rows

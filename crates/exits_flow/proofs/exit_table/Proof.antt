@@ -36,7 +36,7 @@ returns-6 c = let at = c .before .before .before .before in taking 61 (at .befor
 
 returns-7 : tie.Need-returns-7
 unfolding rows
-returns-7 c = let at = c .before .before in renewing 64 (at .before .before .match .keys7) refl (at .on-exit-prefix .ensures)
+returns-7 c = let at = c .before .before in renewing 64 (at .before .before .match .keys7) refl (at .on-exit-gfm-footnote-definition-prefix .ensures)
 
 returns-8 : tie.Need-returns-8
 unfolding rows onExitMedia onExitLabel onExitLabelText onExitResourceDestinationString onExitResourceTitleString onExitReferenceString onExitDefinition onExitDefinitionLabelString onExitDefinitionDestinationString onExitDefinitionTitleString onExitGfmFootnoteCall onExitGfmFootnoteDefinition onExitGfmFootnoteDefinitionLabelString
