@@ -16,9 +16,10 @@ use Rattle.checker.specs.declared.Checked.the-variants.{Yes, WrongLength, NotUt
 use Rattle.checker.specs.Checked.{event}
 use Rattle.machine.specs.declared.Options.{Options}
 use Rattle.machine.specs.Run.{Answer, page, refused, stopped, runOf}
-use Rattle.build.specs.declared.Built.{Built}
-use Rattle.build.specs.declared.Built.the-variants.{Page, Refused, WorkFull, PageFull}
-use Rattle.build.specs.Build.{checkedOf, Ends, Builds}
+use Rattle.built.specs.declared.Built.{Built}
+use Rattle.built.specs.declared.Built.the-variants.{Page, Refused, WorkFull, PageFull}
+use Rattle.built.specs.Built.{checkedOf}
+use Rattle.build.specs.Build.{Ends, Builds}
 use Rattle.build.proofs.Given.{Given, given}
 
 -- ---- the answer and the output, as functions of the checker's answer and the run's; by `given` none stops

@@ -1,38 +1,17 @@
--- The build: its answers, 01's number and value for each, and every lent byte afterwards. Assumes nothing.
+-- The build: what each answer says of the note, and every lent byte afterwards. Assumes nothing.
 use mathlib.Core.Path.{_≡_}
 use mathlib.Core.List.{List, _++_}
 use Prim.Native.Nat.{ℕ, _-_}
-use lib.Dec.{ltb}
 use lib.ListN.{length}
-use Rattle.lent.specs.Bytes.{if_then_else_}
 use Rattle.lent.specs.Fill.{zeros}
 use Rattle.event.specs.Event.{eventsOf}
-use Rattle.checker.specs.declared.Checked.{Checked}
-use Rattle.checker.specs.declared.Checked.the-variants.{Yes, WrongLength}
-use Rattle.checker.specs.Checked as C
+use Rattle.checker.specs.declared.Checked.the-variants.{Yes}
 use Rattle.machine.specs.declared.Options.{Options}
 use Rattle.machine.specs.Outcome.{go}
 use Rattle.machine.specs.Run.{page, refused, runOf, machineOf}
-use Rattle.build.specs.declared.Built.{Built}
-use Rattle.build.specs.declared.Built.the-variants.{Page, Refused, WorkFull, PageFull}
-
--- the number: 0 for a page, else the refusal's
-abbrev pub numberOf : Built → ℕ
-numberOf (Page n) = 0
-numberOf (Refused c) = C.numberOf c
-numberOf (WorkFull i) = 8
-numberOf (PageFull i) = 9
-
--- the page's length, or the refusal's place
-abbrev pub valueOf : Built → ℕ
-valueOf (Page n) = n
-valueOf (Refused c) = C.placeOf c
-valueOf (WorkFull i) = i .0
-valueOf (PageFull i) = i .0
-
--- refusals 1 to 7: work of fewer than 49,152 bytes has a wrong length too
-abbrev pub checkedOf : (text events : List ℕ) → (work : ℕ) → Checked
-checkedOf text events work = if ltb work 49152 then WrongLength else C.checkOf text events
+use Rattle.built.specs.declared.Built.{Built}
+use Rattle.built.specs.declared.Built.the-variants.{Page, Refused, WorkFull, PageFull}
+use Rattle.built.specs.Built.{checkedOf}
 
 -- what an answer says of the note, of an output of room bytes, and of what stands in it afterwards
 module _ (text events : List ℕ) (o : Options) (room work : ℕ) (out′ : List ℕ) where

@@ -186,7 +186,7 @@ fn call_build(
     events: &[u8],
     out: &mut [u8],
     work: &mut [u8],
-) -> build::Built {
+) -> built::Built {
     fill(out, 0xA5);
     fill(work, 0xA5);
     page::build(text, events, options_of(r), out, work)
@@ -270,10 +270,10 @@ fn checked_head(c: checker::Checked) -> Head {
     }
 }
 
-fn built_head(b: build::Built, room: usize, work: usize) -> Head {
+fn built_head(b: built::Built, room: usize, work: usize) -> Head {
     Head {
-        number: build::number(b),
-        value: build::value(b),
+        number: built::number(b),
+        value: built::value(b),
         second: 0,
         edition: 0,
         room,

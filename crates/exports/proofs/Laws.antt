@@ -11,8 +11,8 @@ use Rattle.checker.specs.Checked.{checkOf}
 use Rattle.written.specs.declared.Written.{Written}
 use Rattle.written.specs.Written.{bytesOf, Wrote}
 use Rattle.machine.specs.declared.Options.{Options}
-use Rattle.build.specs.declared.Built.{Built}
-use Rattle.build.specs.declared.Built.the-variants.{Refused}
+use Rattle.built.specs.declared.Built.{Built}
+use Rattle.built.specs.declared.Built.the-variants.{Refused}
 use Rattle.build.specs.Build.{Builds}
 use Rattle.exports.specs.Packed.{packed, HasNumber, Packs, plain, packedBuilt, PacksBuilt}
 

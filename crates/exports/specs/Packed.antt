@@ -11,8 +11,8 @@ use Rattle.written.specs.Written.{numberOf, answerOf, bytesOf}
 use Rattle.checker.specs.Checked as Checked
 use Rattle.machine.specs.declared.Options.{Options}
 use Rattle.machine.specs.declared.Ending.the-variants.{Lf}
-use Rattle.build.specs.declared.Built.{Built}
-use Rattle.build.specs.declared.Built.the-variants.{Page, Refused, WorkFull, PageFull}
+use Rattle.built.specs.declared.Built.{Built}
+use Rattle.built.specs.declared.Built.the-variants.{Page, Refused, WorkFull, PageFull}
 use Rattle.build.specs.Build.{Builds}
 
 abbrev pub packed : Written → ℕ

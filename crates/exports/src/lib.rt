@@ -7,7 +7,7 @@ ghost use Rattle.sanitize_uri.specs.Url.{sanitizeOf};
 ghost use Rattle.checker.specs.Checked.{checkOf, numberOf};
 ghost use Prim.Native.Nat.{_+_, _^_};
 ghost use Rattle.exports.specs.Packed.{packed, HasNumber, Packs, packedBuilt, plain, PacksBuilt};
-use build::Built;
+use built::Built;
 use machine::Ending;
 use machine::Options;
 

@@ -12,8 +12,8 @@ use Rattle.bundle.specs.declared.Answer.{Answer}
 use Rattle.bundle.specs.declared.Answer.the-variants.{Bundle, Refused}
 use Rattle.bundle.specs.Bundle.{Meaning, says, refused}
 use Rattle.bundle.specs.Read as R
-use Rattle.build.specs.declared.Built.{Built}
-use Rattle.build.specs.declared.Built.the-variants as B
+use Rattle.built.specs.declared.Built.{Built}
+use Rattle.built.specs.declared.Built.the-variants as B
 use Rattle.build.specs.Build.{Builds}
 use Rattle.event.specs.declared.EventIndex.{EventIndex}
 use Rattle.checker.specs.declared.Checked.{Checked}

@@ -8,8 +8,8 @@ use Rattle.machine.specs.declared.Options.{Options}
 use Rattle.machine.specs.declared.Ending.the-variants.{Lf}
 use Rattle.bundle.specs.Bundle.{Meaning, says, refused}
 use Rattle.bundle.specs.Read as R
-use Rattle.build.specs.declared.Built.{Built}
-use Rattle.build.specs.declared.Built.the-variants as B
+use Rattle.built.specs.declared.Built.{Built}
+use Rattle.built.specs.declared.Built.the-variants as B
 use Rattle.build.specs.Build.{Ends}
 use Rattle.checker.specs.Checked as C
 use Rattle.notepage.specs.declared.Shown.{Shown}

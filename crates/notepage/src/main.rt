@@ -3,7 +3,7 @@ ghost use Prim.Native.Nat.{_≤_};
 ghost use mathlib.Core.Path.{_≡_};
 ghost use lib.ListN.{length, take};
 ghost use Rattle.notepage.specs.Shows.{Shows, ShowsNote, offOf, shownOf};
-use build::Built;
+use built::Built;
 use bundle::Answer;
 use libc::STDERR_FILENO;
 use libc::STDIN_FILENO;

@@ -59,7 +59,7 @@ pub fn build(
     options: machine::Options,
     out: &mut [u8],
     work: &mut [u8],
-) -> build::Built
+) -> built::Built
     ensures { λ r. ⌜ Builds (now (text .entry)) (now (events .entry)) options (now (out .entry)) (now (work .entry)) (now (out .exit)) (now (work .exit)) r ⌝ }
 {
     build::build(text, events, options, out, work)

@@ -1,5 +1,6 @@
 -- Refused by the checker, or by the run, or a page. Assumes nothing.
-use Rattle.build.proofs.Laws.{enough, refused, built}
+use Rattle.built.proofs.Laws.{enough}
+use Rattle.build.proofs.Laws.{refused, built}
 use borrow.Author.Needs.{needs}
 use Rattle.build.proofs.build.Statement.{statement}
 use Rattle.build.proofs.build.Tie as tie

@@ -7,8 +7,8 @@ use Rattle.build.proofs.finish.Tie as tie
 enum-known-r : tie.Need-enum-known-r
 enum-known-r c = search needs
 
-clear-requires : tie.Need-clear-requires
-clear-requires c κs = search needs
+page-requires : tie.Need-page-requires
+page-requires c κs = search needs
 
 enum-known-r-2 : tie.Need-enum-known-r-2
 enum-known-r-2 c = search needs
@@ -54,7 +54,7 @@ finish-spec =
     tie.close
     (tie.spec
     enum-known-r
-    clear-requires
+    page-requires
     enum-known-r-2
     refuse-requires
     enum-known-r-3

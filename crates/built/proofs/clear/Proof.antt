@@ -1,8 +1,8 @@
 -- Both buffers. Assumes nothing.
-use Rattle.build.proofs.Laws.{clears}
+use Rattle.built.proofs.Laws.{clears}
 use borrow.Author.Needs.{needs}
-use Rattle.build.proofs.clear.Statement.{statement}
-use Rattle.build.proofs.clear.Tie as tie
+use Rattle.built.proofs.clear.Statement.{statement}
+use Rattle.built.proofs.clear.Tie as tie
 
 clear-requires : tie.Need-clear-requires
 clear-requires c κs = search needs

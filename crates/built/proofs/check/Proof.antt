@@ -1,8 +1,8 @@
 -- By the work bytes, then by the checker. Assumes nothing.
-use Rattle.build.proofs.Laws.{short-work, by-checker}
+use Rattle.built.proofs.Laws.{short-work, by-checker}
 use borrow.Author.Needs.{needs}
-use Rattle.build.proofs.check.Statement.{statement}
-use Rattle.build.proofs.check.Tie as tie
+use Rattle.built.proofs.check.Statement.{statement}
+use Rattle.built.proofs.check.Tie as tie
 
 returns : tie.Need-returns
 returns c = search short-work

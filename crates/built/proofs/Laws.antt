@@ -1,0 +1,43 @@
+-- Which of refusals 1 to 7 it is, and what clearing leaves. Assumes nothing.
+use mathlib.Core.Path.{_≡_, refl, sym, _∙_}
+use mathlib.Core.Bool.{Bool, true, false}
+use mathlib.Core.List.{List}
+use Prim.Native.Nat.{ℕ, _-_, _≤_, _<_}
+use native.Mathlib.Omega.{arith}
+use borrow.Author.Tests.{lt-ltb, le-ltb, ltb-false}
+use lib.Dec.{ltb}
+use lib.ListN.{length}
+use Rattle.lent.specs.Bytes.{if_then_else_}
+use Rattle.lent.specs.Fill.{zeros}
+use Rattle.checker.specs.declared.Checked.{Checked}
+use Rattle.checker.specs.declared.Checked.the-variants.{Yes, WrongLength}
+use Rattle.checker.specs.Checked.{checkOf}
+use Rattle.built.specs.Built.{checkedOf, clearedFrom}
+use Rattle.built.specs.Private.{Clears}
+
+-- ---- refusals 1 to 7
+
+module _ (text events : List ℕ) (work : ℕ) where
+  pub short-work : work < 49152 → WrongLength ≡ checkedOf text events work
+  short-work h = rw (lt-ltb work 49152 h)
+
+  pub by-checker : {c : Checked} → 49152 ≤ work → c ≡ checkOf text events → c ≡ checkedOf text events work
+  by-checker h p = p ∙ rw (le-ltb work 49152 h)
+
+  pub passed : checkedOf text events work ≡ Yes → (49152 ≤ work) × (checkOf text events ≡ Yes)
+  passed p = on (ltb work 49152) refl p
+    where
+      on : (x : Bool) → ltb work 49152 ≡ x → (if x then WrongLength else checkOf text events) ≡ Yes → (49152 ≤ work) × (checkOf text events ≡ Yes)
+      on true e p = let z : _≡_ {A = ℕ} 0 1 = cc in absurd (omega arith)
+      on false e p = (ltb-false work 49152 e, p)
+
+pub enough : (text events work : List ℕ) {c : Checked} → c ≡ checkedOf text events (length work) → c ≡ Yes → 49152 ≤ length work
+enough text events work p q = passed text events (length work) (sym p ∙ q) .0
+
+-- ---- what is left
+
+pub wiped : (d : List ℕ) → clearedFrom 0 d ≡ zeros (length d)
+wiped d = let y : length d - 0 ≡ length d = omega arith in rw y
+
+pub clears : {from : ℕ} {out work out′ work′ : List ℕ} → out′ ≡ clearedFrom from out → work′ ≡ clearedFrom 0 work → Clears from out work out′ work′
+clears {work = work} p q = record { bytes = p; cleared = q ∙ wiped work }
