@@ -1,3 +1,4 @@
+pub mod Lifted
 pub mod Labels
 pub mod Bodies
 pub mod Calls

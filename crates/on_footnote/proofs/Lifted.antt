@@ -1,0 +1,22 @@
+-- A function of the context that is lent nothing, as a handler of the whole. Assumes nothing.
+use mathlib.Core.Path.{_≡_, refl}
+use mathlib.Core.Bool.{true}
+use mathlib.Core.List.{List}
+use Prim.Native.Nat.{ℕ}
+use lib.ListN.{take, take-append-drop}
+use Rattle.machine.specs.Turn.{Turn}
+use Rattle.machine.specs.Command.{Command}
+use Rattle.context.specs.declared.Context.{Context}
+use Rattle.context.specs.Rel.{Sets}
+use Rattle.context.proofs.Commands.{sets}
+use Rattle.whole.specs.declared.Whole.{Whole}
+use Rattle.whole.specs.Quiet.{isQuiet}
+use Rattle.whole.specs.Whole.{World, Always, Handles, Unlent, withContext, withStarts, withBytes}
+use Rattle.whole.proofs.Lifts.{lifts}
+
+-- the captures as they were
+unchanged : {text : List ℕ} {N : Whole → Type 0} {View : Turn → Type 0} {d : Command} {b r : Whole} {w : World} → Handles text N View d b w r (withStarts (w .starts) (withBytes (take 16384 (w .work)) (w .out) w)) → Handles text N View d b w r w
+unchanged {w = w} k = let e = take-append-drop 16384 (w .work) in rw e at k
+
+pub sets-whole : {View : Turn → Type 0} {d : Command} {b : Whole} {x : Context} → isQuiet d ≡ true → Sets d (b .context) x → Unlent Always View d b (withContext x b)
+sets-whole q k = record { unlent = λ text w. unchanged (lifts q (sets k) refl refl refl) }
