@@ -1,13 +1,15 @@
 -- The code's own cases. Assumes nothing.
-use mathlib.Core.Path.{_≡_, sym, _∙_}
+use mathlib.Core.Path.{_≡_, refl, sym, _∙_}
 use mathlib.Core.Bool.{Bool, true, false, not, _&&_}
 use mathlib.Core.List.{List}
 use mathlib.Core.Option.{none, some}
 use Prim.Native.Nat.{ℕ, _+_, _*_, _/_, _^_, _≤_, _<_}
 use native.Mathlib.Omega.{arith}
-use borrow.Author.Tests.{le-leb, lt-leb, eq-eqb, ne-eqb}
+use borrow.Author.Tests.{le-leb, lt-leb, eq-eqb, ne-eqb, eqb-true}
 use lib.Dec.{eqb, leb}
 use lib.ListN.{length}
+use Rattle.lent.specs.Bytes.{if_then_else_}
+use Rattle.lent.proofs.Laws.{and-left, and-right}
 use Rattle.utf8.specs.Utf8.{inside}
 use Rattle.event.specs.declared.Event.{Event}
 use Rattle.event.specs.Event.{isEnter, columnsOf, eventsOf}
@@ -30,6 +32,19 @@ module _ (e : Event) where
     pub past-columns : 1 ≤ columns → columns ≤ 24 → eqb (e .extra / 2 ^ (8 + 2 * columns)) 0 ≡ tableExtra e
     unfolding tableExtra
     past-columns h k = rw (le-leb 1 (columnsOf e) (omega arith), le-leb (columnsOf e) 24 (omega arith), p)
+
+  -- without an extra field it is not a table
+  pub of-none : e .extra ≡ 0 → not (eqb (e .name) 57) ≡ extraHolds e
+  unfolding extraHolds tableExtra
+  of-none h = go (eqb (e .name) 57) refl
+    where
+      same : (l : Bool) → true ≡ (if l then true else true)
+      same true = refl
+      same false = refl
+
+      go : (t : Bool) → eqb (e .name) 57 ≡ t → not (eqb (e .name) 57) ≡ extraHolds e
+      go true k = let n = eqb-true (e .name) 57 k in rw (n, h)
+      go false k = rw (k, h) (same (isList e))
 
   pub of-list : isList e ≡ true → leb (e .extra) 1 ≡ extraHolds e
   unfolding extraHolds
@@ -55,19 +70,47 @@ module _ (e : Event) where
   pub no-chunk : (e .name ≡ 32 → ⊥) → 0 ≡ mostSpaces e
   no-chunk h = rw (ne-eqb (e .name) 32 h)
 
+  pub no-spaces : (eqb (e .before) 0 && eqb (e .after) 0) ≡ true → true ≡ spacesHold e
+  unfolding spacesHold
+  no-spaces h =
+      let b = eqb-true (e .before) 0 (and-left (eqb (e .before) 0) (eqb (e .after) 0) h) in
+      let a = eqb-true (e .after) 0 (and-right (eqb (e .before) 0) (eqb (e .after) 0) h) in
+      rw (le-leb (e .before) (mostSpaces e) (omega arith), le-leb (e .after) (mostSpaces e) (omega arith))
+
   pub of-spaces : {n : ℕ} → n ≡ mostSpaces e → (leb (e .before) n && leb (e .after) n) ≡ spacesHold e
   unfolding spacesHold
   of-spaces p = rw p
 
   module _ (text : List ℕ) where
-    pub of-slice : {s t : Bool} → s ≡ inside text (e .from .0) → t ≡ inside text (e .to .0)
-        → (leb (e .from .0) (e .to .0) && leb (e .to .0) (length text) && not s && not t) ≡ sliceHolds text e
+    pub backwards : e .to .0 < e .from .0 → false ≡ sliceHolds text e
     unfolding sliceHolds
-    of-slice p q = rw (p, q)
+    backwards h = rw (lt-leb (e .from .0) (e .to .0) h)
 
-    pub of-exit : {s t : Bool} → s ≡ spacesHold e → t ≡ sliceHolds text e → (eqb (e .extra) 0 && s && t) ≡ exitHolds text e
+    pub past-text : e .from .0 ≤ e .to .0 → length text < e .to .0 → false ≡ sliceHolds text e
+    unfolding sliceHolds
+    past-text h k = rw (le-leb (e .from .0) (e .to .0) h, lt-leb (e .to .0) (length text) k)
+
+    module _ (h : e .from .0 ≤ e .to .0) (k : e .to .0 ≤ length text) {s : Bool} (p : s ≡ inside text (e .from .0)) where
+      pub from-inside : s ≡ true → false ≡ sliceHolds text e
+      unfolding sliceHolds
+      from-inside l = rw (le-leb (e .from .0) (e .to .0) h, le-leb (e .to .0) (length text) k, ← p, l)
+
+      pub by-to : s ≡ false → {t : Bool} → t ≡ inside text (e .to .0) → not t ≡ sliceHolds text e
+      unfolding sliceHolds
+      by-to l q = rw (le-leb (e .from .0) (e .to .0) h, le-leb (e .to .0) (length text) k, ← p, l, q)
+
+    pub with-extra : (e .extra ≡ 0 → ⊥) → false ≡ exitHolds text e
     unfolding exitHolds
-    of-exit p q = rw (p, q)
+    with-extra h = rw (ne-eqb (e .extra) 0 h)
+
+    module _ (h : e .extra ≡ 0) {s : Bool} (p : s ≡ spacesHold e) where
+      pub spaced : s ≡ true → {t : Bool} → t ≡ sliceHolds text e → t ≡ exitHolds text e
+      unfolding exitHolds
+      spaced k q = rw (eq-eqb (e .extra) 0 h, ← p, k) q
+
+      pub unspaced : s ≡ false → false ≡ exitHolds text e
+      unfolding exitHolds
+      unspaced k = rw (eq-eqb (e .extra) 0 h, ← p, k)
 
     -- ---- an event
 
@@ -78,6 +121,22 @@ module _ (e : Event) where
     pub exited : {s t : Bool} → s ≡ isEnter e → s ≡ false → t ≡ exitHolds text e → (isKnown e && t) ≡ fieldsHold text e
     unfolding fieldsHold
     exited p h q = rw (sym p ∙ h, q)
+
+    pub unknown-kind : 1 < e .kind → false ≡ fieldsHold text e
+    unfolding fieldsHold
+    unknown-kind h = rw (lt-leb (e .kind) 1 h)
+
+    module _ (h : e .kind ≤ 1) where
+      pub unknown-name : 65 < e .name → false ≡ fieldsHold text e
+      unfolding fieldsHold
+      unknown-name k = rw (le-leb (e .kind) 1 h, lt-leb (e .name) 65 k)
+
+      module _ (k : e .name ≤ 65) {s t : Bool} (p : s ≡ isEnter e) where
+        pub known-enter : s ≡ true → t ≡ enterHolds e → t ≡ fieldsHold text e
+        known-enter q r = rw (le-leb (e .kind) 1 h, le-leb (e .name) 65 k) at (entered p q r)
+
+        pub known-exit : s ≡ false → t ≡ exitHolds text e → t ≡ fieldsHold text e
+        known-exit q r = rw (le-leb (e .kind) 1 h, le-leb (e .name) 65 k) at (exited p q r)
 
 -- ---- the pass
 

@@ -32,6 +32,10 @@ fn table_extra(e: Event) -> bool
 fn extra_holds(e: Event) -> bool
     ensures { λ r. ⌜ r ≡ extraHolds e ⌝ }
 {
+    // most have none, and only a table needs one
+    if e.extra == 0 {
+        return e.name != Event::GFM_TABLE;
+    }
     if (e.name == Event::LIST_ORDERED) | (e.name == Event::LIST_UNORDERED) {
         return e.extra <= 1;
     }
@@ -59,6 +63,9 @@ fn most_spaces(e: Event) -> u8
 fn spaces_hold(e: Event) -> bool
     ensures { λ r. ⌜ r ≡ spacesHold e ⌝ }
 {
+    if (e.before == 0) & (e.after == 0) {
+        return true;
+    }
     let most = most_spaces(e);
     (e.before <= most) & (e.after <= most)
 }
@@ -68,23 +75,43 @@ fn slice_holds(text: &[u8], e: Event) -> bool
 {
     let from = e.from.0;
     let to = e.to.0;
-    (from <= to) & (to <= text.len()) & !utf8::is_inside(text, from) & !utf8::is_inside(text, to)
+    if to < from {
+        return false;
+    }
+    if text.len() < to {
+        return false;
+    }
+    if utf8::is_inside(text, from) {
+        return false;
+    }
+    !utf8::is_inside(text, to)
 }
 
 fn exit_holds(text: &[u8], e: Event) -> bool
     ensures { λ r. ⌜ r ≡ exitHolds (now (text .entry)) e ⌝ }
 {
-    (e.extra == 0) & spaces_hold(e) & slice_holds(text, e)
+    if e.extra != 0 {
+        return false;
+    }
+    if spaces_hold(e) {
+        return slice_holds(text, e);
+    }
+    false
 }
 
 fn fields_hold(text: &[u8], e: Event) -> bool
     ensures { λ r. ⌜ r ≡ fieldsHold (now (text .entry)) e ⌝ }
 {
-    let known = (e.kind <= Event::EXIT) & (e.name <= Event::GFM_FOOTNOTE_DEFINITION_LABEL_STRING);
-    if e.is_enter() {
-        return known & enter_holds(e);
+    if Event::EXIT < e.kind {
+        return false;
     }
-    known & exit_holds(text, e)
+    if Event::GFM_FOOTNOTE_DEFINITION_LABEL_STRING < e.name {
+        return false;
+    }
+    if e.is_enter() {
+        return enter_holds(e);
+    }
+    exit_holds(text, e)
 }
 
 // The pass: bytes behind the last whole record are none of an event.

@@ -50,13 +50,6 @@ pub signed-none : (text events : List ℕ) (n : ℕ) (signatures : List ℕ) →
 signed-none text events n signatures = record { right = λ k h. absurd (omega arith) }
 
 module _ {text events signatures : List ℕ} {n i : ℕ} (s : SignedTo i text events n signatures) where
-  pub signed-other : {v : Event} {p : Part} → v ≡ eventAt events i → p ≡ labelOf n v → p ≡ Nothing → SignedTo (i + 1) text events n signatures
-  signed-other g q h =
-      record {
-        right = below-more (Right text events n signatures) i (s .right)
-            (λ from to l z. let y : Slice from to ≡ Nothing = sym z ∙ ap (labelOf n) (sym g) ∙ sym q ∙ h in let c : _≡_ {A = ℕ} 0 1 = cc in absurd (omega arith));
-      }
-
   pub signed-put : {v : Event} {p : Part} {from to : ℕ} {r : Signature} {label : List ℕ} → i < length signatures / 2 → v ≡ eventAt events i → p ≡ labelOf n v → p ≡ Slice from to
       → label ≡ slice text from to → r ≡ signatureOf (identityOf label) → SignedTo (i + 1) text events n (put signatures i r)
   signed-put {from = from} {to = to} {r = r} h g q y e m =

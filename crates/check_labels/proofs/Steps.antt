@@ -27,15 +27,19 @@ use Rattle.check_labels.proofs.Signatures.{skipped}
 -- ---- an element's own part
 
 module _ (n : ℕ) (e : Event) where
-  pub label-enter : e .kind ≡ 0 → Nothing ≡ labelOf n e
+  pub label-enter : e .kind ≡ 0 → labelOf n e ≡ Nothing
   unfolding labelOf
   label-enter k = rw (eq-eqb (e .kind) 0 k)
 
-  pub label-other : (e .kind ≡ 0 → ⊥) → (e .name ≡ n → ⊥) → Nothing ≡ labelOf n e
+  pub label-other : (e .name ≡ n → ⊥) → labelOf n e ≡ Nothing
   unfolding labelOf
-  label-other k p = rw (ne-eqb (e .kind) 0 k, ne-eqb (e .name) n p)
+  label-other p = go (isEnter e) refl
+    where
+      go : (t : Bool) → isEnter e ≡ t → labelOf n e ≡ Nothing
+      go true k = rw k
+      go false k = rw (k, ne-eqb (e .name) n p)
 
-  pub label-here : (e .kind ≡ 0 → ⊥) → e .name ≡ n → Slice (e .from .0) (e .to .0) ≡ labelOf n e
+  pub label-here : (e .kind ≡ 0 → ⊥) → e .name ≡ n → labelOf n e ≡ Slice (e .from .0) (e .to .0)
   unfolding labelOf
   label-here k p = rw (ne-eqb (e .kind) 0 k, eq-eqb (e .name) n p)
 
@@ -124,10 +128,6 @@ module _ (text b : List ℕ) (n : ℕ) (s : List ℕ) {i count : ℕ} {w : Bool}
     {v : Event} {p : Part} (g : v ≡ eventAt b i) (r : p ≡ labelOf n v) where
   labelled : labelOf n (eventAt b i) ≡ p
   labelled = ap (labelOf n) (sym g) ∙ sym r
-
-  pub listed-none : p ≡ Nothing → listed (identities n text (drop (i + 1) (eventsOf b))) s ≡ w
-  unfolding identities
-  listed-none m = rw (here b q h, identities, labelled, m) at e
 
   module _ {from to : ℕ} (m : p ≡ Slice from to) where
     more : same s (identityOf (slice text from to)) ≡ false → listed (identities n text (drop (i + 1) (eventsOf b))) s ≡ w

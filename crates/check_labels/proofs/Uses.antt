@@ -1,8 +1,9 @@
--- A list without a link, an image or a call needs no definition. Assumes nothing.
-use mathlib.Core.Path.{_≡_, refl, sym, _∙_}
+-- Only links, images and calls need a definition. Assumes nothing.
+use mathlib.Core.Path.{_≡_, refl, _∙_}
 use mathlib.Core.Bool.{Bool, true, false, true≢false}
 use mathlib.Core.List.{List, [], _∷_}
 use Prim.Native.Nat.{ℕ, _+_, _/_, _<_, _≤_}
+use native.Mathlib.Omega.{arith}
 use lib.Dec.{eqb}
 use lib.ListN.{length, drop}
 use borrow.Author.Tests.{eqb-false}
@@ -10,8 +11,8 @@ use Rattle.lent.specs.Bytes.{oneOf}
 use Rattle.event.specs.Event.{eventAt, eventsOf}
 use Rattle.check_labels.specs.declared.Labels.{Labels}
 use Rattle.check_labels.specs.declared.Labels.the-variants.{Yes}
-use Rattle.check_labels.specs.Labels.{undefinedFrom, undefinedOf}
-use Rattle.check_labels.specs.Uses.{IsUse, HasUse}
+use Rattle.check_labels.specs.Labels.{labelHolds, undefinedFrom, undefinedOf}
+use Rattle.check_labels.specs.Uses.{IsUse, NextUse}
 use Rattle.check_labels.proofs.Steps.{holds-exit, holds-other, first-start, first-more, first-end}
 
 -- ---- one event
@@ -26,24 +27,22 @@ module _ (b : List ℕ) (i : ℕ) {k : ℕ} (r : k ≡ eventAt b i .kind) where
 pub use-there : (b : List ℕ) (i : ℕ) → IsUse b i true
 use-there b i = record { holds = λ p. absurd (true≢false p) }
 
--- ---- all of them
+-- ---- those on the way to the next
 
--- the events before i hold in any text
-pub record Passed (b : List ℕ) (i : ℕ) : Type 0 where
-  pub passed : (text : List ℕ) → undefinedFrom text (eventsOf b) i (drop i (eventsOf b)) ≡ undefinedOf text b
+pub use-start : (b : List ℕ) (from : ℕ) → NextUse b from from
+use-start b from = record { on = omega arith; same = λ text. refl }
 
-pub passed-none : (b : List ℕ) → Passed b 0
-passed-none b = record { passed = λ text. first-start text b }
+pub use-more : (b : List ℕ) {from i count : ℕ} → NextUse b from i → count ≡ length b / 20 → {t : Bool} → i < count → IsUse b i t → t ≡ false → NextUse b from (i + 1)
+use-more b p q h u e = let l = p .on in record { on = omega arith; same = λ text. first-more text b q (p .same text) h (u .holds e text) refl }
 
-module _ (b : List ℕ) {i count : ℕ} (p : Passed b i) (q : count ≡ length b / 20) where
-  pub passed-more : {t : Bool} → i < count → IsUse b i t → t ≡ false → Passed b (i + 1)
-  passed-more h u e = record { passed = λ text. first-more text b q (p .passed text) h (u .holds e text) refl }
+module _ (text b : List ℕ) {r : ℕ} where
+  pub use-first : NextUse b 0 r → undefinedFrom text (eventsOf b) r (drop r (eventsOf b)) ≡ undefinedOf text b
+  use-first u = u .same text ∙ first-start text b
 
-  pub passed-all : count ≤ i → HasUse b false
-  passed-all h = record { holds = λ e text. first-end text b q (p .passed text) h }
+  pub use-next : {i count : ℕ} {t : Bool} {w : Labels} → count ≡ length b / 20 → undefinedFrom text (eventsOf b) i (drop i (eventsOf b)) ≡ w
+      → i < count → t ≡ labelHolds text (eventsOf b) (eventAt b i) (drop (i + 1) (eventsOf b)) → t ≡ true → NextUse b (i + 1) r
+      → undefinedFrom text (eventsOf b) r (drop r (eventsOf b)) ≡ w
+  use-next q e h t p u = u .same text ∙ first-more text b q e h t p
 
-pub used : (b : List ℕ) → HasUse b true
-used b = record { holds = λ p. absurd (true≢false p) }
-
-pub unused : (text b : List ℕ) {r : Bool} → HasUse b r → r ≡ false → Yes ≡ undefinedOf text b
-unused text b u e = u .holds e text
+  pub unused : {count : ℕ} → NextUse b 0 r → count ≡ length b / 20 → count ≤ r → Yes ≡ undefinedOf text b
+  unused u q h = first-end text b q (use-first u) h

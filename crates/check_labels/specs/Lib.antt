@@ -1,3 +1,4 @@
 pub mod Labels
 pub mod Signature
+pub mod Next
 pub mod Uses

@@ -7,9 +7,10 @@ ghost use lib.ListN.{length, drop};
 ghost use Rattle.lent.specs.Bytes.{listed, oneOf};
 ghost use Rattle.event.specs.Event.{eventsOf, eventAt};
 ghost use Rattle.normalize_identifier.specs.Identity.{identityOf};
-ghost use Rattle.check_labels.specs.Labels.{labelOf, turnOf, ownPart, soughtOf, identities, isDefined, labelHolds, undefinedOf};
+ghost use Rattle.check_labels.specs.Labels.{turnOf, ownPart, soughtOf, identities, isDefined, labelHolds, undefinedOf};
 ghost use Rattle.check_labels.specs.Signature.{Signed, Skips};
-ghost use Rattle.check_labels.specs.Uses.{IsUse, HasUse};
+ghost use Rattle.check_labels.specs.Next.{IsLabel, NextLabel};
+ghost use Rattle.check_labels.specs.Uses.{IsUse, NextUse};
 use event::Event;
 use event::EventIndex;
 use signature::Signature;
@@ -32,17 +33,32 @@ pub enum Turn {
     Out,
 }
 
-// The slice of an event that is the exit of an n.
-fn label_of(e: Event, n: u8) -> Part
-    ensures { λ r. ⌜ r ≡ labelOf n e ⌝ }
+// Whether the event at an index is the exit of an n.
+fn is_label(events: &[u8], n: u8, i: usize) -> bool
+    requires { ⌜ i < length (now events) / 20 ⌝ }
+    ensures { λ r. ⌜ IsLabel (now (events .entry)) n i r ⌝ }
 {
-    if e.kind == Event::ENTER {
-        return Part::Nothing;
+    let name = event::name_at(events, EventIndex(i));
+    if name != n {
+        return false;
     }
-    if e.name != n {
-        return Part::Nothing;
+    let kind = event::kind_at(events, EventIndex(i));
+    kind != Event::ENTER
+}
+
+// The index of the first exit of an n from `from` on, or one behind the last event.
+fn next_label(events: &[u8], n: u8, from: usize) -> usize
+    ensures { λ r. ⌜ NextLabel (now (events .entry)) n from r ⌝ }
+{
+    let count = event::count(events);
+    let mut i = from;
+    while i < count {
+        if is_label(events, n, i) {
+            return i;
+        }
+        i += 1;
     }
-    Part::Slice(e.from.0, e.to.0)
+    i
 }
 
 // The signatures of the definitions' labels, two words at twice an event's index, as far as there is room.
@@ -50,19 +66,18 @@ fn sign(text: &[u8], events: &[u8], n: u8, signatures: &mut [usize])
     ensures { λ r. ⌜ Signed (now (text .entry)) (now (events .entry)) n (now (signatures .exit)) ⌝ }
 {
     let count = event::count(events);
-    let mut i = 0;
+    let mut i = next_label(events, n, 0);
     while i < count {
         if signatures.len() / 2 <= i {
             return;
         }
-        let Part::Slice(from, to) = label_of(Event::read(events, EventIndex(i)), n) else {
-            i += 1;
-            continue;
-        };
+        let e = Event::read(events, EventIndex(i));
+        let from = e.from.0;
+        let to = e.to.0;
         let s = signature::sign(signature::part(text, from, to));
         signatures[2 * i] = s.first;
         signatures[2 * i + 1] = s.second;
-        i += 1;
+        i = next_label(events, n, i + 1);
     }
 }
 
@@ -83,20 +98,19 @@ fn has_label(text: &[u8], events: &[u8], n: u8, signatures: &[usize], label: &[u
 {
     let s = signature::sign(label);
     let count = event::count(events);
-    let mut i = 0;
+    let mut i = next_label(events, n, 0);
     while i < count {
-        let Part::Slice(from, to) = label_of(Event::read(events, EventIndex(i)), n) else {
-            i += 1;
-            continue;
-        };
+        let e = Event::read(events, EventIndex(i));
+        let from = e.from.0;
+        let to = e.to.0;
         if skips(signatures, i, s) {
-            i += 1;
+            i = next_label(events, n, i + 1);
             continue;
         }
         if normalize_identifier::same_identity(label, signature::part(text, from, to)) {
             return true;
         }
-        i += 1;
+        i = next_label(events, n, i + 1);
     }
     false
 }
@@ -220,16 +234,47 @@ fn holds(text: &[u8], events: &[u8], definitions: &[usize], footnotes: &[usize],
     true
 }
 
+// Whether the event at an index is the enter of a link, an image or a call.
+fn is_use(events: &[u8], i: usize) -> bool
+    requires { ⌜ i < length (now events) / 20 ⌝ }
+    ensures { λ r. ⌜ IsUse (now (events .entry)) i r ⌝ }
+{
+    let kind = event::kind_at(events, EventIndex(i));
+    if kind != Event::ENTER {
+        return false;
+    }
+    let name = event::name_at(events, EventIndex(i));
+    if is_medium(name) {
+        return true;
+    }
+    name == Event::GFM_FOOTNOTE_CALL
+}
+
+// The index of the first such enter from `from` on, or one behind the last event.
+fn next_use(events: &[u8], from: usize) -> usize
+    ensures { λ r. ⌜ NextUse (now (events .entry)) from r ⌝ }
+{
+    let count = event::count(events);
+    let mut i = from;
+    while i < count {
+        if is_use(events, i) {
+            return i;
+        }
+        i += 1;
+    }
+    i
+}
+
 // The first enter that does not hold.
 fn first(text: &[u8], events: &[u8], definitions: &[usize], footnotes: &[usize]) -> Labels
     requires { ⌜ (Signed (now text) (now events) 54 (now definitions)) × (Signed (now text) (now events) 65 (now footnotes)) ⌝ }
     ensures { λ r. ⌜ r ≡ undefinedOf (now (text .entry)) (now (events .entry)) ⌝ }
 {
     let count = event::count(events);
-    let mut i = 0;
+    let mut i = next_use(events, 0);
     while i < count {
         if holds(text, events, definitions, footnotes, i) {
-            i += 1;
+            i = next_use(events, i + 1);
             continue;
         }
         return Labels::At(i);
@@ -282,42 +327,12 @@ fn check_uses(text: &[u8], events: &[u8]) -> Labels
     check_many(text, events)
 }
 
-// Whether the event at an index is the enter of a link, an image or a call.
-fn is_use(events: &[u8], i: usize) -> bool
-    requires { ⌜ i < length (now events) / 20 ⌝ }
-    ensures { λ r. ⌜ IsUse (now (events .entry)) i r ⌝ }
-{
-    let kind = event::kind_at(events, EventIndex(i));
-    if kind != Event::ENTER {
-        return false;
-    }
-    let name = event::name_at(events, EventIndex(i));
-    if is_medium(name) {
-        return true;
-    }
-    name == Event::GFM_FOOTNOTE_CALL
-}
-
-// Whether there is a link, an image or a call: without one no label is looked for.
-fn has_use(events: &[u8]) -> bool
-    ensures { λ r. ⌜ HasUse (now (events .entry)) r ⌝ }
-{
-    let count = event::count(events);
-    let mut i = 0;
-    while i < count {
-        if is_use(events, i) {
-            return true;
-        }
-        i += 1;
-    }
-    false
-}
-
 // Whether each link, image and call has its definition; else the first, by its enter, that has none.
 pub fn check_labels(text: &[u8], events: &[u8]) -> Labels
     ensures { λ r. ⌜ r ≡ undefinedOf (now (text .entry)) (now (events .entry)) ⌝ }
 {
-    if has_use(events) {
+    // without a link, an image or a call no label is looked for
+    if next_use(events, 0) < event::count(events) {
         return check_uses(text, events);
     }
     Labels::Yes

@@ -1,3 +1,4 @@
 pub mod Rules
 pub mod First
 pub mod Laws
+pub mod Unruled

@@ -1,3 +1,4 @@
 pub mod First
 pub mod Slices
+pub mod Unruled
 pub mod Counts

@@ -3,6 +3,7 @@ ghost use Prim.Native.Nat.{min};
 ghost use mathlib.Core.Path.{_≡_};
 ghost use Rattle.lent.specs.Bytes.{isDigit};
 ghost use Rattle.check_slices.specs.Slices.{isEnding, isItemValue, isLevel, isUnderline, seenBehind, sliceHolds, part, eventHolds, slicesOf};
+ghost use Rattle.check_slices.specs.Unruled.{ruledOf, Unruled};
 ghost use Rattle.check_slices.specs.Counts.{Few, countedBehind, countHolds, countsOf};
 use character_reference::Marker;
 use event::Event;
@@ -201,6 +202,28 @@ fn seen_behind(seen: Seen, e: Event) -> Seen
     seen
 }
 
+// A bit for each name below 64, the lowest for 0, whose enter changes what is looked back for.
+const ENTERS: u64 = 0x2000;
+
+// The same for exits, and for those whose slice has a rule.
+const EXITS: u64 = 0x0404_4F18;
+
+fn ruled(kind: u8) -> u64
+    ensures { λ r. ⌜ r ≡ ruledOf kind ⌝ }
+{
+    if kind == Event::ENTER {
+        return ENTERS;
+    }
+    EXITS
+}
+
+// Whether an event of this kind and name is known to have no rule and to change nothing: most have none.
+fn is_unruled(kind: u8, name: u8) -> bool
+    ensures { λ r. ⌜ Unruled kind name r ⌝ }
+{
+    ruled(kind) >> (name & 63) & 1 == 0
+}
+
 // Refusal 5: yes, or the first exit whose slice breaks its rule.
 pub fn check_slices(text: &[u8], events: &[u8]) -> Slices
     ensures { λ r. ⌜ r ≡ slicesOf (now (text .entry)) (now (events .entry)) ⌝ }
@@ -212,6 +235,11 @@ pub fn check_slices(text: &[u8], events: &[u8]) -> Slices
     };
     let mut i: usize = 0;
     while i < n {
+        let kind = event::kind_at(events, EventIndex(i));
+        if is_unruled(kind, event::name_at(events, EventIndex(i))) {
+            i += 1;
+            continue;
+        }
         let e = Event::read(events, EventIndex(i));
         if !event_holds(text, seen, e) {
             return Slices::At(i);

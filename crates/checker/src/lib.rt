@@ -1,6 +1,8 @@
 // The checker: whether a list of events and its text meet 01's rules, refusals 1 to 7 in the order of their numbers.
 ghost use mathlib.Core.Path.{_≡_};
 ghost use Rattle.checker.specs.Checked.{sizesHold, checkOf, fromFields, fromNesting, fromSlices, fromCounts, fromLabels, numberOf, placeOf};
+ghost use Rattle.checker.specs.Marks.{IsMark, HasMarks};
+use event::Event;
 use event::EventIndex;
 
 // Yes, or why not: 01's refusals 1 to 7, with the event where there is one. Left open at the end, it is the count of events.
@@ -103,8 +105,46 @@ fn from_slices(text: &[u8], events: &[u8]) -> Checked
     }
 }
 
-// From 6 on.
+// A bit for each name below 64, the lowest for 0, that 6 or 7 looks at: links, images, calls, and the two kinds of definitions.
+const MARKS: u64 = 0xC020_6000_0000_0000;
+
+// Whether 6 or 7 may look at an event of this kind and name.
+fn is_mark(kind: u8, name: u8) -> bool
+    ensures { λ r. ⌜ IsMark kind name r ⌝ }
+{
+    if kind != Event::ENTER {
+        return false;
+    }
+    MARKS >> (name & 63) & 1 == 1
+}
+
+// Whether there may be one.
+fn has_marks(events: &[u8]) -> bool
+    ensures { λ r. ⌜ HasMarks (now (events .entry)) r ⌝ }
+{
+    let count = event::count(events);
+    let mut i: usize = 0;
+    while i < count {
+        let kind = event::kind_at(events, EventIndex(i));
+        if is_mark(kind, event::name_at(events, EventIndex(i))) {
+            return true;
+        }
+        i += 1;
+    }
+    false
+}
+
+// From 6 on: a list without a mark breaks neither 6 nor 7.
 fn from_counts(text: &[u8], events: &[u8]) -> Checked
+    ensures { λ r. ⌜ r ≡ fromCounts (now (text .entry)) (now (events .entry)) ⌝ }
+{
+    if has_marks(events) {
+        return from_marks(text, events);
+    }
+    Checked::Yes
+}
+
+fn from_marks(text: &[u8], events: &[u8]) -> Checked
     ensures { λ r. ⌜ r ≡ fromCounts (now (text .entry)) (now (events .entry)) ⌝ }
 {
     match check_slices::check_counts(events) {

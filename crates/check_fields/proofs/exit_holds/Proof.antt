@@ -1,8 +1,11 @@
 -- No extra, the spaces and the slice. Assumes nothing.
-use Rattle.check_fields.proofs.Cases.{of-exit}
+use Rattle.check_fields.proofs.Cases.{with-extra, spaced, unspaced}
 use borrow.Author.Needs.{needs}
 use Rattle.check_fields.proofs.exit_holds.Statement.{statement}
 use Rattle.check_fields.proofs.exit_holds.Tie as tie
+
+returns : tie.Need-returns
+returns c = search with-extra
 
 spaces-hold-requires : tie.Need-spaces-hold-requires
 spaces-hold-requires c κs = search needs
@@ -10,8 +13,11 @@ spaces-hold-requires c κs = search needs
 slice-holds-requires : tie.Need-slice-holds-requires
 slice-holds-requires c κs = search needs
 
-returns : tie.Need-returns
-returns c = search of-exit
+returns-2 : tie.Need-returns-2
+returns-2 c = search spaced
+
+returns-3 : tie.Need-returns-3
+returns-3 c = search unspaced
 
 pub exit-holds-spec : {M : Type 1} → statement M
-exit-holds-spec = tie.close (tie.spec spaces-hold-requires slice-holds-requires returns)
+exit-holds-spec = tie.close (tie.spec returns spaces-hold-requires slice-holds-requires returns-2 returns-3)

@@ -4,7 +4,8 @@ use Prim.Native.Nat.{_-_}
 use lib.ListN.{drop}
 use Rattle.event.specs.Event.{eventsOf}
 use Rattle.check_labels.specs.Labels.{undefinedFrom, undefinedOf}
-use Rattle.check_labels.proofs.Steps.{first-start, first-more, first-found, first-end}
+use Rattle.check_labels.proofs.Steps.{first-found, first-end}
+use Rattle.check_labels.proofs.Uses.{use-first, use-next}
 use borrow.Author.Needs.{needs}
 use Rattle.check_labels.proofs.first.Statement.{statement}
 use Rattle.check_labels.proofs.first.Tie as tie
@@ -18,20 +19,26 @@ abbrev μ-loop : tie.MeasureT-loop
 count-requires : tie.Need-count-requires Inv-loop μ-loop
 count-requires c κs = search needs
 
+next-use-requires : tie.Need-next-use-requires Inv-loop μ-loop
+next-use-requires c κs = search needs
+
 loop-holds : tie.Need-loop-holds Inv-loop μ-loop
-loop-holds c = search first-start
+loop-holds c = search use-first
 
 holds-requires : tie.Need-holds-requires Inv-loop μ-loop
 holds-requires c κs = search needs
 
-add-i : tie.Need-add-i Inv-loop μ-loop
-add-i c = search needs
+add-next-use : tie.Need-add-next-use Inv-loop μ-loop
+add-next-use c = search needs
+
+next-use-requires-2 : tie.Need-next-use-requires-2 Inv-loop μ-loop
+next-use-requires-2 c κs = search needs
 
 loop-less : tie.Need-loop-less Inv-loop μ-loop
 loop-less c = search needs
 
 loop-again : tie.Need-loop-again Inv-loop μ-loop
-loop-again c = search first-more
+loop-again c = search use-next
 
 returns : tie.Need-returns Inv-loop μ-loop
 returns c = search first-found
@@ -46,9 +53,11 @@ first-spec =
     Inv-loop
     μ-loop
     count-requires
+    next-use-requires
     loop-holds
     holds-requires
-    add-i
+    add-next-use
+    next-use-requires-2
     loop-less
     loop-again
     returns

@@ -1,16 +1,18 @@
--- The loop's invariant: the signatures below `i` are right. Assumes nothing.
+-- The loop's invariant: the signatures below `i` are right, and the next label stands at `i`. Assumes nothing.
 use mathlib.Core.Path.{_≡_}
 use Prim.Native.Nat.{_-_}
 use native.Mathlib.Omega.{arith}
 use lib.ListN.{length, length-set}
 use Rattle.check_labels.specs.Signature.{SignedTo}
-use Rattle.check_labels.proofs.Signatures.{signed-none, signed-other, signed-put, signed-full, signed-end}
+use Rattle.check_labels.specs.Next.{Found}
+use Rattle.check_labels.proofs.Signatures.{signed-full, signed-end}
+use Rattle.check_labels.proofs.Next.{signed-start, signed-next}
 use borrow.Author.Needs.{needs}
 use Rattle.check_labels.proofs.sign.Statement.{statement}
 use Rattle.check_labels.proofs.sign.Tie as tie
 
 abbrev Inv-loop : tie.InvT-loop
-Inv-loop text events n signatures₀ count i₀ signatures i = (SignedTo i text events n signatures) × (length signatures ≡ length signatures₀)
+Inv-loop text events n signatures₀ count i₀ signatures i = (SignedTo i text events n signatures) × (length signatures ≡ length signatures₀) × Found events n i
 
 abbrev μ-loop : tie.MeasureT-loop
 μ-loop text events n signatures₀ count i₀ signatures i = count - i
@@ -18,8 +20,11 @@ abbrev μ-loop : tie.MeasureT-loop
 count-requires : tie.Need-count-requires Inv-loop μ-loop
 count-requires c κs = search needs
 
+next-label-requires : tie.Need-next-label-requires Inv-loop μ-loop
+next-label-requires c κs = search needs
+
 loop-holds : tie.Need-loop-holds Inv-loop μ-loop
-loop-holds c = search (signed-none, needs)
+loop-holds c = search (signed-start, needs)
 
 same-length : tie.Need-same-length Inv-loop μ-loop
 same-length c = search needs
@@ -29,24 +34,6 @@ returns c = search signed-full
 
 read-requires : tie.Need-read-requires Inv-loop μ-loop
 read-requires c κs = search needs
-
-label-of-requires : tie.Need-label-of-requires Inv-loop μ-loop
-label-of-requires c κs = search needs
-
-enum-known-from : tie.Need-enum-known-from Inv-loop μ-loop
-enum-known-from c = search needs
-
-enum-told : tie.Need-enum-told Inv-loop μ-loop
-enum-told c = search needs
-
-add-i : tie.Need-add-i Inv-loop μ-loop
-add-i c = search needs
-
-loop-less : tie.Need-loop-less Inv-loop μ-loop
-loop-less c = search needs
-
-loop-again : tie.Need-loop-again Inv-loop μ-loop
-loop-again c = search (signed-other, needs)
 
 part-requires : tie.Need-part-requires Inv-loop μ-loop
 part-requires c κs = search needs
@@ -75,14 +62,17 @@ mul-signatures-4 c = search needs
 slice-write-signatures-2 : tie.Need-slice-write-signatures-2 Inv-loop μ-loop
 slice-write-signatures-2 c = simp length-set (omega arith)
 
-add-i-2 : tie.Need-add-i-2 Inv-loop μ-loop
-add-i-2 c = search needs
+add-next-label : tie.Need-add-next-label Inv-loop μ-loop
+add-next-label c = search needs
 
-loop-less-2 : tie.Need-loop-less-2 Inv-loop μ-loop
-loop-less-2 c = search needs
+next-label-requires-2 : tie.Need-next-label-requires-2 Inv-loop μ-loop
+next-label-requires-2 c κs = search needs
 
-loop-again-2 : tie.Need-loop-again-2 Inv-loop μ-loop
-loop-again-2 c = search (signed-put, needs)
+loop-less : tie.Need-loop-less Inv-loop μ-loop
+loop-less c = search needs
+
+loop-again : tie.Need-loop-again Inv-loop μ-loop
+loop-again c = search (signed-next, needs)
 
 same-length-2 : tie.Need-same-length-2 Inv-loop μ-loop
 same-length-2 c = search needs
@@ -97,16 +87,11 @@ sign-spec =
     Inv-loop
     μ-loop
     count-requires
+    next-label-requires
     loop-holds
     same-length
     returns
     read-requires
-    label-of-requires
-    enum-known-from
-    enum-told
-    add-i
-    loop-less
-    loop-again
     part-requires
     sign-requires
     mul-signatures
@@ -116,8 +101,9 @@ sign-spec =
     add-signatures
     mul-signatures-4
     slice-write-signatures-2
-    add-i-2
-    loop-less-2
-    loop-again-2
+    add-next-label
+    next-label-requires-2
+    loop-less
+    loop-again
     same-length-2
     returns-2)

@@ -6,6 +6,7 @@ use Rattle.event.specs.Event.{eventsOf}
 use Rattle.check_slices.specs.First.{firstFrom}
 use Rattle.check_slices.specs.Slices.{eventHolds, seenBehind, slicesOf}
 use Rattle.check_slices.proofs.Laws.{stops, goes-on, ends}
+use Rattle.check_slices.proofs.Unruled.{unruled-next}
 use borrow.Author.Needs.{needs}
 use Rattle.check_slices.proofs.check_slices.Statement.{statement}
 use Rattle.check_slices.proofs.check_slices.Tie as tie
@@ -23,6 +24,24 @@ loop-holds : tie.Need-loop-holds Inv-loop μ-loop
 unfolding slicesOf
 loop-holds c = search needs
 
+kind-at-requires : tie.Need-kind-at-requires Inv-loop μ-loop
+kind-at-requires c κs = search needs
+
+name-at-requires : tie.Need-name-at-requires Inv-loop μ-loop
+name-at-requires c κs = search needs
+
+is-unruled-requires : tie.Need-is-unruled-requires Inv-loop μ-loop
+is-unruled-requires c κs = search needs
+
+add-i : tie.Need-add-i Inv-loop μ-loop
+add-i c = search needs
+
+loop-less : tie.Need-loop-less Inv-loop μ-loop
+loop-less c = search needs
+
+loop-again : tie.Need-loop-again Inv-loop μ-loop
+loop-again c = search unruled-next
+
 read-requires : tie.Need-read-requires Inv-loop μ-loop
 read-requires c κs = search needs
 
@@ -35,14 +54,14 @@ returns c = search stops
 seen-behind-requires : tie.Need-seen-behind-requires Inv-loop μ-loop
 seen-behind-requires c κs = search needs
 
-add-i : tie.Need-add-i Inv-loop μ-loop
-add-i c = search needs
+add-i-2 : tie.Need-add-i-2 Inv-loop μ-loop
+add-i-2 c = search needs
 
-loop-less : tie.Need-loop-less Inv-loop μ-loop
-loop-less c = search needs
+loop-less-2 : tie.Need-loop-less-2 Inv-loop μ-loop
+loop-less-2 c = search needs
 
-loop-again : tie.Need-loop-again Inv-loop μ-loop
-loop-again c = search goes-on
+loop-again-2 : tie.Need-loop-again-2 Inv-loop μ-loop
+loop-again-2 c = search goes-on
 
 returns-2 : tie.Need-returns-2 Inv-loop μ-loop
 returns-2 c = search ends
@@ -55,11 +74,17 @@ check-slices-spec =
     μ-loop
     count-requires
     loop-holds
+    kind-at-requires
+    name-at-requires
+    is-unruled-requires
+    add-i
+    loop-less
+    loop-again
     read-requires
     event-holds-requires
     returns
     seen-behind-requires
-    add-i
-    loop-less
-    loop-again
+    add-i-2
+    loop-less-2
+    loop-again-2
     returns-2)
