@@ -4,10 +4,10 @@ use mathlib.Core.Bool.{Bool, true, false, not, true≢false}
 use mathlib.Core.List.{List}
 use Prim.Native.Nat.{ℕ, _+_, _/_, _<_, _≤_}
 use native.Mathlib.Omega.{arith}
-use lib.Dec.{eqb, ltb}
+use lib.Dec.{eqb}
 use lib.ListN.{length, drop}
 use borrow.Author.Count.{below-more}
-use borrow.Author.Tests.{eqb-true, eqb-false, ltb-true, ltb-false, not-true, not-false}
+use borrow.Author.Tests.{eqb-true, eqb-false, not-true, not-false}
 use Rattle.lent.specs.Bytes.{same, listed}
 use Rattle.event.specs.declared.Event.{Event}
 use Rattle.event.specs.Event.{eventAt, eventsOf}
@@ -15,11 +15,11 @@ use Rattle.event.proofs.Laws.{events-next}
 use Rattle.normalize_identifier.specs.Identity.{identityOf}
 use Rattle.signature.specs.declared.Signature.{Signature}
 use Rattle.signature.specs.Signature.{signatureOf}
-use Rattle.check_labels.specs.declared.Part.the-variants.{Slice, Nothing}
+use Rattle.check_labels.specs.declared.Part.the-variants.{Slice}
 use Rattle.check_labels.specs.Labels.{slice, labelOf, identities}
-use Rattle.check_labels.specs.Signature.{Right, SignedTo, Signed, Skips}
-use Rattle.check_labels.specs.Next.{IsLabel, Passed, Found, NextLabel}
-use Rattle.check_labels.proofs.Signatures.{put, signed-none, signed-put}
+use Rattle.check_labels.specs.Signature.{Right, SignedTo, Signed, Signs, Skips}
+use Rattle.check_labels.specs.Next.{IsLabel, IsPlain, Passed, Found, NextLabel}
+use Rattle.check_labels.proofs.Signatures.{put, signed-other, signed-put}
 use Rattle.check_labels.proofs.Steps.{label-enter, label-other, label-here, listed-found, listed-differs, listed-skipped}
 
 -- ---- one event
@@ -38,7 +38,7 @@ module _ (b : List ℕ) (n i : ℕ) {x : ℕ} (p : x ≡ eventAt b i .name) wher
 -- ---- those on the way to the next
 
 pub label-start : (b : List ℕ) (n from : ℕ) → Passed b n from from
-label-start b n from = record { on = omega arith; nothing = λ k h l. absurd (omega arith); same = λ text. refl }
+label-start b n from = record { on = omega arith; same = λ text. refl }
 
 module _ (b : List ℕ) (n : ℕ) {from i count : ℕ} (p : Passed b n from i) (q : count ≡ length b / 20) where
   module _ {t : Bool} (u : IsLabel b n i t) where
@@ -49,8 +49,7 @@ module _ (b : List ℕ) (n : ℕ) {from i count : ℕ} (p : Passed b n from i) (
     pub label-more : i < count → t ≡ false → Passed b n from (i + 1)
     label-more h e =
         let l = p .on in
-        let below = below-more (λ (k : ℕ). from ≤ k → labelOf n (eventAt b k) ≡ Nothing) i (λ k m f. p .nothing k f m) (λ f. u .no e) in
-        record { on = omega arith; nothing = λ k f m. below k m f; same = λ text. sym (without text h e) ∙ p .same text }
+        record { on = omega arith; same = λ text. sym (without text h e) ∙ p .same text }
 
     pub label-next : t ≡ true → NextLabel b n from i
     label-next e = record { passed = p; next = record { found = λ h. u .yes e } }
@@ -65,23 +64,38 @@ slice-here f h g = rw g (f .found h)
 
 -- ---- signatures
 
-signed-on : {text b signatures : List ℕ} {n i r : ℕ} → SignedTo i text b n signatures → Passed b n i r → SignedTo r text b n signatures
-signed-on {text} {b} {signatures} {n} {i} {r} s p = record { right = λ k h. go k h (ltb k i) refl }
-  where
-    go : (k : ℕ) → k < r → (t : Bool) → ltb k i ≡ t → Right text b n signatures k
-    go k h true t = s .right k (ltb-true k i t)
-    go k h false t = λ from to l z.
-        let y : Slice from to ≡ Nothing = sym z ∙ p .nothing k (ltb-false k i t) h in
-        let c : _≡_ {A = ℕ} 0 1 = cc in
-        absurd (omega arith)
+module _ (b : List ℕ) (i : ℕ) {x : ℕ} (p : x ≡ eventAt b i .name) where
+  pub labelled : IsPlain b i false
+  labelled = record { definition = λ t. absurd (true≢false (sym t)); footnote = λ t. absurd (true≢false (sym t)) }
 
-pub signed-start : (text b : List ℕ) (n : ℕ) (signatures : List ℕ) {r : ℕ} → NextLabel b n 0 r → SignedTo r text b n signatures
-signed-start text b n signatures x = signed-on (signed-none text b n signatures) (x .passed)
+  pub by-name : (x ≡ 54 → ⊥) → IsPlain b i (not (eqb x 65))
+  by-name m =
+      record {
+        definition = λ t. label-other 54 (eventAt b i) (λ z. m (p ∙ z));
+        footnote = λ t. label-other 65 (eventAt b i) (λ z. eqb-false x 65 (not-true (eqb x 65) t) (p ∙ z));
+      }
 
-pub signed-next : {text b signatures : List ℕ} {n i r count : ℕ} {v : Event} {s : Signature} {label : List ℕ} → SignedTo i text b n signatures → Found b n i → count ≡ length b / 20 → i < count
-    → i < length signatures / 2 → v ≡ eventAt b i → label ≡ slice text (v .from .0) (v .to .0) → s ≡ signatureOf (identityOf label) → NextLabel b n (i + 1) r
-    → SignedTo r text b n (put signatures i s)
-signed-next a f q h l g e m x = signed-on (signed-put a l g refl (slice-here f (omega arith) g) e m) (x .passed)
+module _ (text b : List ℕ) (n i : ℕ) (signatures : List ℕ) where
+  pub signs-full : length signatures / 2 ≤ i → Signs text b n i signatures signatures
+  signs-full h = record { signs = λ s. record { right = below-more (Right text b n signatures) i (s .right) (λ from to l z. absurd (omega arith)) } }
+
+  module _ {t : Bool} (u : IsLabel b n i t) where
+    pub signs-none : t ≡ false → Signs text b n i signatures signatures
+    signs-none e = record { signs = λ s. signed-other s (u .no e) }
+
+    pub signs-put : t ≡ true → i < length signatures / 2 → {v : Event} {label : List ℕ} {s : Signature} → v ≡ eventAt b i → label ≡ slice text (v .from .0) (v .to .0)
+        → s ≡ signatureOf (identityOf label) → Signs text b n i signatures (put signatures i s)
+    signs-put e h {v} g l m = record { signs = λ s. signed-put s {from = v .from .0} {to = v .to .0} h g refl (rw g (u .yes e)) l m }
+
+module _ {text b signatures : List ℕ} {i : ℕ} {t : Bool} (u : IsPlain b i t) (e : t ≡ true) where
+  pub plain-definition : SignedTo i text b 54 signatures → SignedTo (i + 1) text b 54 signatures
+  plain-definition s = signed-other s (u .definition e)
+
+  pub plain-footnote : SignedTo i text b 65 signatures → SignedTo (i + 1) text b 65 signatures
+  plain-footnote s = signed-other s (u .footnote e)
+
+pub signed-by : {text b before after : List ℕ} {n i : ℕ} → Signs text b n i before after → SignedTo i text b n before → SignedTo (i + 1) text b n after
+signed-by p s = p .signs s
 
 -- ---- the search
 

@@ -49,6 +49,14 @@ module _ (signatures : List ℕ) (i : ℕ) (s : Signature) where
 pub signed-none : (text events : List ℕ) (n : ℕ) (signatures : List ℕ) → SignedTo 0 text events n signatures
 signed-none text events n signatures = record { right = λ k h. absurd (omega arith) }
 
+-- no label at i
+pub signed-other : {text events signatures : List ℕ} {n i : ℕ} → SignedTo i text events n signatures → labelOf n (eventAt events i) ≡ Nothing → SignedTo (i + 1) text events n signatures
+signed-other {text} {events} {signatures} {n} {i} s h =
+    record {
+      right = below-more (Right text events n signatures) i (s .right)
+          (λ from to l z. let y : Slice from to ≡ Nothing = sym z ∙ h in let c : _≡_ {A = ℕ} 0 1 = cc in absurd (omega arith));
+    }
+
 module _ {text events signatures : List ℕ} {n i : ℕ} (s : SignedTo i text events n signatures) where
   pub signed-put : {v : Event} {p : Part} {from to : ℕ} {r : Signature} {label : List ℕ} → i < length signatures / 2 → v ≡ eventAt events i → p ≡ labelOf n v → p ≡ Slice from to
       → label ≡ slice text from to → r ≡ signatureOf (identityOf label) → SignedTo (i + 1) text events n (put signatures i r)
@@ -63,9 +71,6 @@ module _ {text events signatures : List ℕ} {n i : ℕ} (s : SignedTo i text ev
             let t : to ≡ b = cc in
             put-same signatures i r h ∙ rw (← f, ← t, ← e) m);
       }
-
-  pub signed-full : length signatures / 2 ≤ i → Signed text events n signatures
-  signed-full h = record { right = λ k l a b m. s .right k (omega arith) a b m }
 
   pub signed-end : {count : ℕ} → count ≡ length events / 20 → count ≤ i → Signed text events n signatures
   signed-end p h = record { right = λ k l. s .right k (omega arith) }

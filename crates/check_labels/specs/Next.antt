@@ -16,10 +16,14 @@ pub record IsLabel (events : List ℕ) (n i : ℕ) (r : Bool) : Type 0 where
   pub yes : r ≡ true → Labelled events n i
   pub no : r ≡ false → labelOf n (eventAt events i) ≡ Nothing
 
+-- where it says yes, it is no exit of a 54 or a 65
+pub record IsPlain (events : List ℕ) (i : ℕ) (r : Bool) : Type 0 where
+  pub definition : r ≡ true → labelOf 54 (eventAt events i) ≡ Nothing
+  pub footnote : r ≡ true → labelOf 65 (eventAt events i) ≡ Nothing
+
 -- no event from `from` to r is one
 pub record Passed (events : List ℕ) (n from r : ℕ) : Type 0 where
   pub on : from ≤ r
-  pub nothing : (k : ℕ) → from ≤ k → k < r → labelOf n (eventAt events k) ≡ Nothing
   pub same : (text : List ℕ) → identities n text (drop r (eventsOf events)) ≡ identities n text (drop from (eventsOf events))
 
 -- the one at i is, if there is one

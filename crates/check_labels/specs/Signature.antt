@@ -29,6 +29,10 @@ pub record SignedTo (i : ℕ) (text events : List ℕ) (n : ℕ) (signatures : L
 abbrev pub Signed : (text events : List ℕ) → ℕ → List ℕ → Type 0
 Signed text events n signatures = SignedTo (length events / 20) text events n signatures
 
+-- where the signatures below i were right before, those up to i are behind
+pub record Signs (text events : List ℕ) (n i : ℕ) (before after : List ℕ) : Type 0 where
+  pub signs : SignedTo i text events n before → SignedTo (i + 1) text events n after
+
 -- where it says so, the signature at an index is not s
 pub record Skips (signatures : List ℕ) (i : ℕ) (s : Signature) (r : Bool) : Type 0 where
   pub inside : r ≡ true → i < length signatures / 2

@@ -8,8 +8,8 @@ ghost use Rattle.lent.specs.Bytes.{listed, oneOf};
 ghost use Rattle.event.specs.Event.{eventsOf, eventAt};
 ghost use Rattle.normalize_identifier.specs.Identity.{identityOf};
 ghost use Rattle.check_labels.specs.Labels.{turnOf, ownPart, soughtOf, identities, isDefined, labelHolds, undefinedOf};
-ghost use Rattle.check_labels.specs.Signature.{Signed, Skips};
-ghost use Rattle.check_labels.specs.Next.{IsLabel, NextLabel};
+ghost use Rattle.check_labels.specs.Signature.{Signed, Signs, Skips};
+ghost use Rattle.check_labels.specs.Next.{IsLabel, IsPlain, NextLabel};
 ghost use Rattle.check_labels.specs.Uses.{IsUse, NextUse};
 use event::Event;
 use event::EventIndex;
@@ -46,7 +46,7 @@ fn is_label(events: &[u8], n: u8, i: usize) -> bool
     kind != Event::ENTER
 }
 
-// The index of the first exit of an n from `from` on, or one behind the last event.
+// The index of the first exit of an n from `from` on, else one that no event has.
 fn next_label(events: &[u8], n: u8, from: usize) -> usize
     ensures { λ r. ⌜ NextLabel (now (events .entry)) n from r ⌝ }
 {
@@ -61,23 +61,57 @@ fn next_label(events: &[u8], n: u8, from: usize) -> usize
     i
 }
 
-// The signatures of the definitions' labels, two words at twice an event's index, as far as there is room.
-fn sign(text: &[u8], events: &[u8], n: u8, signatures: &mut [usize])
-    ensures { λ r. ⌜ Signed (now (text .entry)) (now (events .entry)) n (now (signatures .exit)) ⌝ }
+// Whether the event at an index is known to be no label of a definition or of a footnote definition.
+fn is_plain(events: &[u8], i: usize) -> bool
+    requires { ⌜ i < length (now events) / 20 ⌝ }
+    ensures { λ r. ⌜ IsPlain (now (events .entry)) i r ⌝ }
 {
-    let count = event::count(events);
-    let mut i = next_label(events, n, 0);
-    while i < count {
-        if signatures.len() / 2 <= i {
-            return;
-        }
+    let name = event::name_at(events, EventIndex(i));
+    if name == Event::DEFINITION_LABEL_STRING {
+        return false;
+    }
+    name != Event::GFM_FOOTNOTE_DEFINITION_LABEL_STRING
+}
+
+// Puts the signature of an exit of an n at its index, if there is room.
+fn sign_at(text: &[u8], events: &[u8], n: u8, i: usize, signatures: &mut [usize])
+    requires { ⌜ i < length (now events) / 20 ⌝ }
+    ensures { λ r. ⌜ Signs (now (text .entry)) (now (events .entry)) n i (now (signatures .entry)) (now (signatures .exit)) ⌝ }
+{
+    if signatures.len() / 2 <= i {
+        return;
+    }
+    if is_label(events, n, i) {
         let e = Event::read(events, EventIndex(i));
         let from = e.from.0;
         let to = e.to.0;
         let s = signature::sign(signature::part(text, from, to));
         signatures[2 * i] = s.first;
         signatures[2 * i + 1] = s.second;
-        i = next_label(events, n, i + 1);
+        return;
+    }
+}
+
+// The signatures of the labels of definitions and footnote definitions, two words at twice an event's index, as far as there is room.
+fn sign(text: &[u8], events: &[u8], definitions: &mut [usize], footnotes: &mut [usize])
+    ensures { λ r. ⌜ (Signed (now (text .entry)) (now (events .entry)) 54 (now (definitions .exit))) × (Signed (now (text .entry)) (now (events .entry)) 65 (now (footnotes .exit))) ⌝ }
+{
+    let count = event::count(events);
+    let mut i = 0;
+    while i < count {
+        if is_plain(events, i) {
+            i += 1;
+            continue;
+        }
+        sign_at(text, events, Event::DEFINITION_LABEL_STRING, i, definitions);
+        sign_at(
+            text,
+            events,
+            Event::GFM_FOOTNOTE_DEFINITION_LABEL_STRING,
+            i,
+            footnotes,
+        );
+        i += 1;
     }
 }
 
@@ -250,7 +284,7 @@ fn is_use(events: &[u8], i: usize) -> bool
     name == Event::GFM_FOOTNOTE_CALL
 }
 
-// The index of the first such enter from `from` on, or one behind the last event.
+// The index of the first such enter from `from` on, else one that no event has.
 fn next_use(events: &[u8], from: usize) -> usize
     ensures { λ r. ⌜ NextUse (now (events .entry)) from r ⌝ }
 {
@@ -291,13 +325,7 @@ fn first_signed(
 ) -> Labels
     ensures { λ r. ⌜ r ≡ undefinedOf (now (text .entry)) (now (events .entry)) ⌝ }
 {
-    sign(text, events, Event::DEFINITION_LABEL_STRING, definitions);
-    sign(
-        text,
-        events,
-        Event::GFM_FOOTNOTE_DEFINITION_LABEL_STRING,
-        footnotes,
-    );
+    sign(text, events, definitions, footnotes);
     first(text, events, definitions, footnotes)
 }
 

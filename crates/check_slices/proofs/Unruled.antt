@@ -2,13 +2,12 @@
 use mathlib.Core.Path.{_≡_, refl, sym, _∙_}
 use mathlib.Core.Bool.{Bool, true, false}
 use mathlib.Core.List.{List}
-use Prim.Native.Nat.{ℕ, _+_, _/_, _%_, _^_, _<_}
+use Prim.Native.Nat.{ℕ, _+_, _/_, _^_, _<_}
 use native.Mathlib.Omega.{arith}
 use borrow.Author.Tests.{eq-eqb, ne-eqb}
 use lib.Bits.{bitAnd, and-mask}
 use lib.Dec.{eqb}
 use lib.ListN.{length, drop}
-use Rattle.event.specs.declared.Event.{Event}
 use Rattle.event.specs.Event.{isEnter, eventAt, eventsOf}
 use Rattle.check_slices.specs.declared.Seen.{Seen}
 use Rattle.check_slices.specs.declared.Slices.{Slices}

@@ -2,14 +2,13 @@
 use mathlib.Core.Path.{_≡_, refl, sym, _∙_}
 use mathlib.Core.Bool.{Bool, true, false, true≢false}
 use mathlib.Core.List.{List, [], _∷_}
-use Prim.Native.Nat.{ℕ, _+_, _/_, _%_, _^_, _<_, _≤_}
+use Prim.Native.Nat.{ℕ, _+_, _/_, _^_, _<_, _≤_}
 use native.Mathlib.Omega.{arith}
 use borrow.Author.Tests.{eq-eqb, ne-eqb}
 use lib.Bits.{bitAnd, and-mask}
 use lib.Dec.{eqb}
 use lib.ListN.{length, drop}
 use Rattle.lent.specs.Bytes.{oneOf}
-use Rattle.event.specs.declared.Event.{Event}
 use Rattle.event.specs.Event.{isEnter, eventAt, eventsOf}
 use Rattle.check_slices.specs.declared.Slices.the-variants as S
 use Rattle.check_slices.specs.First.{firstFrom}
@@ -18,10 +17,9 @@ use Rattle.check_slices.proofs.Laws.{goes-on, ends, others-hold, exits-hold, ot
 use Rattle.check_labels.specs.declared.Labels.the-variants as L
 use Rattle.check_labels.specs.Labels.{undefinedFrom, undefinedOf}
 use Rattle.check_labels.proofs.Steps.{holds-exit, holds-other, first-start, first-more, first-end}
-use Rattle.checker.specs.declared.Checked.{Checked}
 use Rattle.checker.specs.declared.Checked.the-variants.{Yes}
-use Rattle.checker.specs.Checked.{fromCounts, fromLabels}
-use Rattle.checker.specs.Marks.{Unmarked, IsMark, HasMarks}
+use Rattle.checker.specs.Checked.{fromCounts}
+use Rattle.checker.specs.Marks.{IsMark, HasMarks}
 use Rattle.checker.proofs.Order.{counts-pass, labels-pass}
 
 -- ---- one event

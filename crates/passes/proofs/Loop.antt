@@ -1,6 +1,6 @@
 -- The loop of a pass, step by step. Assumes nothing.
 use mathlib.Core.Path.{_≡_, refl, sym, ap, _∙_}
-use mathlib.Core.Bool.{Bool, true, false, not, _||_}
+use mathlib.Core.Bool.{Bool, true, false, not, _&&_, _||_}
 use mathlib.Core.Logic.{_⊎_, inl, inr, ⊎-elim}
 use mathlib.Core.List.{List, _++_}
 use Prim.Native.Nat.{ℕ, _+_, _-_, _/_, _≤_, _<_}
@@ -131,3 +131,18 @@ module _ {first : Bool} {events : List ℕ} where
 
     pub ahead-end : length events / 20 ≤ i → Ahead first events p (record { at = i; inside = inside })
     ahead-end n = record { walks = k; here = λ h. absurd (omega arith) }
+
+  pub jumps : {p : Place} {j : ℕ} → first ≡ true → p .inside ≡ false → Walks true events false (p .at) false j → Walks first events (p .inside) (p .at) false j
+  jumps q z k = rw (q, z) k
+
+  pub then-ahead : {p q r : Place} → Walks first events (p .inside) (p .at) (q .inside) (q .at) → Ahead first events q r → Ahead first events p r
+  then-ahead k l = let a = k .later in let b = l .walks .later in record { walks = record { goes = λ s. l .walks .goes (k .goes s); later = omega arith }; here = l .here }
+
+-- no event between two definitions is one
+pub walks-between : {events : List ℕ} {from i : ℕ} {x : Bool} → Walks true events false from false i → i < length events / 20 → x ≡ isHere false (eventAt events i) → x ≡ false → Walks true events false from false (i + 1)
+walks-between {events} {from} {i} k h p q = walks-on {p = record { at = from; inside = false }} k h (stays-out (eventAt events i) false (sym p ∙ q)) (leaves-other (eventAt events i) (wanted-first (eventAt events i) false p refl) q) refl
+
+-- no branch is taken in the test
+pub is-definition : (e : Event) {kind name : ℕ} → kind ≡ e .kind → name ≡ e .name → (eqb kind 0 && eqb name 53) ≡ isHere false e
+unfolding isHere
+is-definition e {name = name} k n = rw (← k, ← n, ← or-no (eqb name 53))

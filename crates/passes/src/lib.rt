@@ -1,5 +1,6 @@
 // A pass over the events, definitions or all else, and after each event the limits.
 ghost use Prim.Native.Nat.{_/_, _<_};
+ghost use mathlib.Core.Bool.{true, false};
 ghost use mathlib.Core.Path.{_≡_};
 ghost use lib.ListN.{length};
 ghost use Rattle.event.specs.Event.{eventAt};
@@ -8,7 +9,7 @@ ghost use Rattle.turns.specs.Loud.{world};
 ghost use Rattle.turns.specs.Passing.{isHere, staysInside};
 ghost use Rattle.passes.specs.Lacking.{Lacks};
 ghost use Rattle.passes.specs.Passing.{wanted, Passes};
-ghost use Rattle.passes.specs.Private.{Leaves, Ahead};
+ghost use Rattle.passes.specs.Private.{Leaves, Walks, Ahead};
 use event::Event;
 use event::EventIndex;
 use machine::Options;
@@ -99,8 +100,47 @@ fn is_left(first: bool, inside: bool, events: &[u8], i: EventIndex) -> bool
     true
 }
 
+// Whether the event at an index is the enter of a definition. Both are compared, so that no branch is foreseen wrongly.
+fn is_definition(events: &[u8], i: EventIndex) -> bool
+    requires { ⌜ i .0 < length (now events) / 20 ⌝ }
+    ensures { λ r. ⌜ r ≡ isHere false (eventAt (now (events .entry)) (i .0)) ⌝ }
+{
+    let kind = event::kind_at(events, i);
+    let name = event::name_at(events, i);
+    (kind == Event::ENTER) & (name == Event::DEFINITION)
+}
+
+// The first one from an index on, or the end.
+fn next_definition(events: &[u8], from: usize) -> usize
+    ensures { λ r. ⌜ Walks true (now (events .entry)) false from false r ⌝ }
+{
+    let n = event::count(events);
+    let mut i = from;
+    while i < n {
+        if is_definition(events, EventIndex(i)) {
+            return i;
+        }
+        i += 1;
+    }
+    i
+}
+
+// The pass over definitions need not look at what is between them.
+fn jump(first: bool, p: Place, events: &[u8]) -> Place
+    ensures { λ r. ⌜ Walks first (now (events .entry)) (p .inside) (p .at) (r .inside) (r .at) ⌝ }
+{
+    if first {
+        if p.inside {
+            return p;
+        }
+        let at = next_definition(events, p.at);
+        return Place { at, inside: false };
+    }
+    p
+}
+
 // The first event from a place on at which something is to be done, or the end.
-fn ahead(first: bool, p: Place, events: &[u8]) -> Place
+fn walk(first: bool, p: Place, events: &[u8]) -> Place
     ensures { λ r. ⌜ Ahead first (now (events .entry)) p r ⌝ }
 {
     let n = event::count(events);
@@ -116,6 +156,12 @@ fn ahead(first: bool, p: Place, events: &[u8]) -> Place
         return Place { at, inside };
     }
     Place { at, inside }
+}
+
+fn ahead(first: bool, p: Place, events: &[u8]) -> Place
+    ensures { λ r. ⌜ Ahead first (now (events .entry)) p r ⌝ }
+{
+    walk(first, jump(first, p, events), events)
 }
 
 // The events of definitions, or all others, in order, up to the first after which there is no room.

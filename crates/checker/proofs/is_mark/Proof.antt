@@ -1,7 +1,6 @@
 -- By the bit of the name. Assumes nothing.
 use native.Mathlib.Omega.{arith}
 use Rattle.checker.proofs.Marks.{low, exit-unmarked, enter-unmarked}
-use borrow.Author.Needs.{needs}
 use Rattle.checker.proofs.is_mark.Statement.{statement}
 use Rattle.checker.proofs.is_mark.Tie as tie
 

@@ -1,0 +1,17 @@
+-- By the name. Assumes nothing.
+use Rattle.check_labels.proofs.Next.{labelled, by-name}
+use borrow.Author.Needs.{needs}
+use Rattle.check_labels.proofs.is_plain.Statement.{statement}
+use Rattle.check_labels.proofs.is_plain.Tie as tie
+
+name-at-requires : tie.Need-name-at-requires
+name-at-requires c κs = search needs
+
+returns : tie.Need-returns
+returns c = search labelled
+
+returns-2 : tie.Need-returns-2
+returns-2 c = search by-name
+
+pub is-plain-spec : {M : Type 1} → statement M
+is-plain-spec = tie.close (tie.spec name-at-requires returns returns-2)
