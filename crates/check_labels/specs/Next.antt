@@ -1,4 +1,4 @@
--- The next label of a definition. Assumes nothing.
+-- The next label of a definition: no part of a promise. Assumes nothing.
 use mathlib.Core.Path.{_≡_}
 use mathlib.Core.Bool.{Bool, true, false}
 use mathlib.Core.List.{List}

@@ -1,4 +1,4 @@
--- Signatures of the definitions' labels: what the search goes by before it compares. The answer does not depend on them. Assumes nothing.
+-- Signatures of the definitions' labels: what the search goes by before it compares. The answer does not depend on them: no part of a promise. Assumes nothing.
 use mathlib.Core.Path.{_≡_}
 use mathlib.Core.Bool.{Bool, true}
 use mathlib.Core.List.{List}

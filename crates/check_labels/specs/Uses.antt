@@ -1,4 +1,4 @@
--- The next link, image or call. Assumes nothing.
+-- The next link, image or call: no part of a promise. Assumes nothing.
 use mathlib.Core.Path.{_≡_}
 use mathlib.Core.Bool.{Bool, true, false}
 use mathlib.Core.List.{List}

@@ -1,4 +1,4 @@
--- Lists of events that refusals 6 and 7 do not look at. Assumes nothing.
+-- Lists of events that refusals 6 and 7 do not look at: no part of a promise. Assumes nothing.
 use mathlib.Core.Path.{_≡_}
 use mathlib.Core.Bool.{Bool, true, false}
 use mathlib.Core.List.{List}
