@@ -1,3 +1,1 @@
-pub mod Lacking
-pub mod Passing
-pub mod Loop
+mod Loop

@@ -1,84 +1,60 @@
 -- The loop of a pass, step by step. Assumes nothing.
-use mathlib.Core.Path.{_≡_, refl, sym, ap, _∙_}
-use mathlib.Core.Bool.{Bool, true, false, not, _&&_, _||_}
-use mathlib.Core.Logic.{_⊎_, inl, inr, ⊎-elim}
-use mathlib.Core.List.{List, _++_}
+use mathlib.Core.Path.{_≡_, refl, sym, _∙_}
+use mathlib.Core.Bool.{Bool, true, false}
+use mathlib.Core.List.{List, [], _++_}
 use Prim.Native.Nat.{ℕ, _+_, _-_, _/_, _≤_, _<_}
 use native.Mathlib.Omega.{arith}
-use borrow.Author.Tests.{ne-eqb}
-use lib.Dec.{eqb}
 use lib.ListN.{length, take, drop}
-use Rattle.event.specs.declared.Event.{Event}
 use Rattle.event.specs.Event.{eventAt}
 use Rattle.machine.specs.declared.Options.{Options}
+use Rattle.machine.specs.Turn.{Turn}
+use Rattle.machine.specs.Totals.{over}
 use Rattle.whole.specs.declared.Whole.{Whole}
 use Rattle.whole.specs.Whole.{World}
 use Rattle.whole.proofs.Parts.{front-long, as-long}
 use Rattle.turns.specs.Loud.{Turned}
-use Rattle.turns.specs.Passing.{isHere, staysInside}
-use Rattle.passes.specs.declared.Place.{Place}
+use Rattle.turns.specs.Passing.{turnsLeft, staysInside, turnAt}
+use Rattle.turns.proofs.Passing.{left-end, run-over, run-on}
+use Rattle.room.specs.Lacking.{Lacks}
+use Rattle.room.proofs.Over.{over-none, over-some}
+use Rattle.ahead.specs.Reach.{Reaches, wanted}
+use Rattle.ahead.specs.Walks.{Steps}
+use Rattle.ahead.proofs.Turned.{turned}
 use Rattle.passes.specs.declared.Passed.the-variants.{On, Over}
-use Rattle.passes.specs.Lacking.{Lacks}
-use Rattle.idle.specs.Idle.{Idles}
-use Rattle.passes.specs.Passing.{wanted, Passes}
-use Rattle.passes.specs.Private.{Steps, Leaves, Walks, Ahead, Stays}
-use Rattle.passes.proofs.Passing.{starts-so, skips, stays-so, goes-by, refuses-at, ends-so}
+use Rattle.passes.specs.Passing.{Refuses, Passes}
+use Rattle.passes.specs.Private.{Stays}
 
--- ---- where an event is
+-- ---- a turn
 
-or-no : (x : Bool) → x ≡ (x || false)
-or-no true = refl
-or-no false = refl
+starts-so : {text events : List ℕ} {room : ℕ} {ts : List Turn} {b : Whole} {w : World} → Reaches text events room ts ts b w b w
+starts-so = record { reaches = λ rest s v y g. (s, y, g, refl) }
 
-module _ (e : Event) (inside : Bool) where
-  pub here-inside : inside ≡ true → true ≡ isHere inside e
-  unfolding isHere
-  here-inside p = rw p
+module _ (definitions : Bool) {text events : List ℕ} (o : Options) {room : ℕ} {before : List Turn} {b : Whole} {w : World} (inside : Bool) (i : ℕ) {r : Whole} {w′ : World} (h : i < length events / 20)
+    (x : Reaches text events room before (turnsLeft definitions text events o inside i) b w r w′) where
+  module _ (p : wanted definitions inside (eventAt events i) ≡ true) {q : Whole} {w″ : World} (k : Turned text events o i r w′ q w″) (l : length (w″ .out) ≡ length (w′ .out)) where
+    goes-by : Lacks q room 0 → Reaches text events room before (turnsLeft definitions text events o (staysInside inside (eventAt events i)) (i + 1)) b w q w″
+    goes-by n = record {
+      reaches = λ rest s v y g.
+          let a = turned definitions o inside i h x p k rest s v y g in
+          let c = l ∙ a .5 .long in
+          let e = over-none room (a .1) (sym (n .lacks text w″ (a .1) c (a .2))) in
+          let z = run-on (length events / 20) (over room) (turnAt text events o i) (turnsLeft definitions text events o (staysInside inside (eventAt events i)) (i + 1) ++ rest) (a .0) (a .1) (a .3) e in
+          (a .1, record { built = a .2; long = c; roomy = e }, a .4, a .6 ∙ z);
+    }
 
-  module _ (p : inside ≡ false) {kind : ℕ} (q : kind ≡ e .kind) where
-    pub here-exit : (kind ≡ 0 → ⊥) → false ≡ isHere inside e
-    unfolding isHere
-    here-exit h = rw (p, ← q, ne-eqb kind 0 h)
+    refuses-at : {number : ℕ} → Lacks q room number → (number ≡ 0 → ⊥) → Refuses text events room before b w number i
+    unfolding turnAt
+    refuses-at {number} n m = record {
+      refuses = λ rest s v y g.
+          let a = turned definitions o inside i h x p k rest s v y g in
+          let c = l ∙ a .5 .long in
+          let e = over-some room (a .1) number (n .lacks text w″ (a .1) c (a .2)) m in
+          a .6 ∙ run-over (length events / 20) (over room) (turnAt text events o i) (turnsLeft definitions text events o (staysInside inside (eventAt events i)) (i + 1) ++ rest) (a .0) (a .1) (a .3) number e;
+    }
 
-    pub here-enter : {name : ℕ} → kind ≡ 0 → name ≡ e .name → eqb name 53 ≡ isHere inside e
-    unfolding isHere
-    here-enter {name} h l = rw (p, ← q, h, ← l) (or-no (eqb name 53))
-
-  pub stays-out : isHere inside e ≡ false → false ≡ staysInside inside e
-  unfolding staysInside
-  stays-out p = rw p
-
-  module _ (p : isHere inside e ≡ true) {kind : ℕ} (q : kind ≡ e .kind) where
-    pub stays-entered : kind ≡ 0 → true ≡ staysInside inside e
-    unfolding staysInside
-    stays-entered h = rw (p, ← q, h)
-
-    pub stays-by : {name : ℕ} → (kind ≡ 0 → ⊥) → name ≡ e .name → not (eqb name 53) ≡ staysInside inside e
-    unfolding staysInside
-    stays-by {name} h l = rw (p, ← q, ne-eqb kind 0 h, ← l) (ap not (or-no (eqb name 53)))
-
-  module _ {first r : Bool} (q : r ≡ isHere inside e) where
-    pub wanted-first : first ≡ true → r ≡ wanted first inside e
-    wanted-first p = rw (p, q)
-
-    pub wanted-second : first ≡ false → not r ≡ wanted first inside e
-    wanted-second p = rw (p, q)
-
--- ---- what is left out
-
-either : (x : Bool) → (x ≡ true) ⊎ (x ≡ false)
-either true = inl refl
-either false = inr refl
-
-no-clash : {A : Type 0} → true ≡ false → A
-no-clash z = let y : _≡_ {A = ℕ} 0 1 = cc in absurd (omega arith)
-
-module _ {first inside : Bool} (e : Event) {x : Bool} (p : x ≡ wanted first inside e) where
-  pub leaves-idle : {kind name : ℕ} {r : Bool} → x ≡ true → kind ≡ e .kind → name ≡ e .name → Idles kind name r → Leaves first inside e r
-  leaves-idle z k n h = record { left = λ q w. h .idles e (sym k) (sym n) q; taken = λ q. sym p ∙ z }
-
-  pub leaves-other : x ≡ false → Leaves first inside e true
-  leaves-other z = record { left = λ q w. no-clash (sym w ∙ sym p ∙ z); taken = λ q. no-clash q }
+ends-so : (definitions : Bool) {text events : List ℕ} (o : Options) {room : ℕ} {before : List Turn} {b : Whole} {w : World} (inside : Bool) (i : ℕ) {r : Whole} {w′ : World} → length events / 20 ≤ i
+    → Reaches text events room before (turnsLeft definitions text events o inside i) b w r w′ → Reaches text events room before [] b w r w′
+ends-so definitions {text} {events} o inside i h x = let z = left-end definitions text events o inside i h in rw (← z) x
 
 -- the work bytes are as long where the captures' part of them is
 pub lent-long : (captures work : List ℕ) → length captures ≡ length (take 16384 work) → length work ≡ 49152 → length (captures ++ drop 16384 work) ≡ 49152
@@ -100,11 +76,6 @@ module _ {first : Bool} {text events : List ℕ} {o : Options} where
   all-steps {inside = inside} {i} h x = record { passes = ends-so first o inside i h (x .reached) }
 
   module _ {b : Whole} {w : World} {inside : Bool} {i : ℕ} {r : Whole} {w′ : World} (h : i < length events / 20) (k : Steps first text events o b w inside i r w′) where
-    pub left-out : {next x : Bool} → next ≡ staysInside inside (eventAt events i) → Leaves first inside (eventAt events i) x → x ≡ true → Steps first text events o b w next (i + 1) r w′
-    left-out m l q =
-        ⊎-elim (λ z. rw m (record { reached = stays-so first o inside i h (k .reached) (l .left q z) z; long = k .long })) (λ z. rw m (record { reached = skips first o inside i h (k .reached) z; long = k .long }))
-        (either (wanted first inside (eventAt events i)))
-
     module _ {next : Bool} (m : next ≡ staysInside inside (eventAt events i)) (l : wanted first inside (eventAt events i) ≡ true) {u : Whole} {w″ : World} {number : ℕ} (t : Turned text events o i r w′ u w″) (n : length (w″ .out) ≡ length (w′ .out)) (a : Lacks u (length (w″ .out)) number) where
       stepped : number ≡ 0 → Steps first text events o b w next (i + 1) u w″
       stepped z = rw m (record { reached = goes-by first o inside i h (k .reached) l t n (rw (← (n ∙ k .long), ← z) a); long = n ∙ k .long })
@@ -115,34 +86,3 @@ module _ {first : Bool} {text events : List ℕ} {o : Options} where
       -- the event is done
       pub stays : Stays first text events o b w next (i + 1) number u w″
       stays = record { on = stepped; past = λ z. omega arith; over = λ z. let e : i + 1 - 1 ≡ i = omega arith in rw e (over-here z) }
-
--- ---- on to the next event
-
-module _ {first : Bool} {events : List ℕ} where
-  pub walks-start : {inside : Bool} {i : ℕ} → Walks first events inside i inside i
-  walks-start = record { goes = λ k. k; later = omega arith }
-
-  module _ {p : Place} {inside : Bool} {i : ℕ} (k : Walks first events (p .inside) (p .at) inside i) where
-    pub walks-on : {next x : Bool} → i < length events / 20 → next ≡ staysInside inside (eventAt events i) → Leaves first inside (eventAt events i) x → x ≡ true → Walks first events (p .inside) (p .at) next (i + 1)
-    walks-on h m l q = let z = k .later in record { goes = λ s. left-out h (k .goes s) m l q; later = omega arith }
-
-    pub ahead-here : {x : Bool} → Leaves first inside (eventAt events i) x → x ≡ false → Ahead first events p (record { at = i; inside = inside })
-    ahead-here l q = record { walks = k; here = λ h. l .taken q }
-
-    pub ahead-end : length events / 20 ≤ i → Ahead first events p (record { at = i; inside = inside })
-    ahead-end n = record { walks = k; here = λ h. absurd (omega arith) }
-
-  pub jumps : {p : Place} {j : ℕ} → first ≡ true → p .inside ≡ false → Walks true events false (p .at) false j → Walks first events (p .inside) (p .at) false j
-  jumps q z k = rw (q, z) k
-
-  pub then-ahead : {p q r : Place} → Walks first events (p .inside) (p .at) (q .inside) (q .at) → Ahead first events q r → Ahead first events p r
-  then-ahead k l = let a = k .later in let b = l .walks .later in record { walks = record { goes = λ s. l .walks .goes (k .goes s); later = omega arith }; here = l .here }
-
--- no event between two definitions is one
-pub walks-between : {events : List ℕ} {from i : ℕ} {x : Bool} → Walks true events false from false i → i < length events / 20 → x ≡ isHere false (eventAt events i) → x ≡ false → Walks true events false from false (i + 1)
-walks-between {events} {from} {i} k h p q = walks-on {p = record { at = from; inside = false }} k h (stays-out (eventAt events i) false (sym p ∙ q)) (leaves-other (eventAt events i) (wanted-first (eventAt events i) false p refl) q) refl
-
--- no branch is taken in the test
-pub is-definition : (e : Event) {kind name : ℕ} → kind ≡ e .kind → name ≡ e .name → (eqb kind 0 && eqb name 53) ≡ isHere false e
-unfolding isHere
-is-definition e {name = name} k n = rw (← k, ← n, ← or-no (eqb name 53))

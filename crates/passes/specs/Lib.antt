@@ -1,3 +1,2 @@
-pub mod Lacking
 pub mod Passing
 pub mod Private

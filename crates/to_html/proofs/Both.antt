@@ -28,7 +28,8 @@ use Rattle.passes.specs.declared.Passed.{Passed}
 use Rattle.passes.specs.declared.Passed.the-variants.{On, Over}
 use Rattle.to_html.specs.declared.Rendered.{Rendered}
 use Rattle.to_html.specs.declared.Rendered.the-variants.{WorkFull, PageFull}
-use Rattle.passes.specs.Passing.{run, Stands, Passes}
+use Rattle.ahead.specs.Reach.{run, Stands}
+use Rattle.passes.specs.Passing.{Passes}
 use Rattle.to_html.specs.Renders.{Answers, Renders}
 use Rattle.to_html.specs.Private.{overOf, Begun, Finishes, turnsFrom, FinishesAll}
 

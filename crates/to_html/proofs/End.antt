@@ -19,10 +19,10 @@ use Rattle.whole.specs.declared.Whole.{Whole}
 use Rattle.whole.specs.Whole.{World}
 use Rattle.to_html.specs.declared.Rendered.{Rendered}
 use Rattle.to_html.specs.declared.Rendered.the-variants.{Page, PageFull}
-use Rattle.passes.specs.Passing.{Stands}
+use Rattle.ahead.specs.Reach.{Stands}
 use Rattle.to_html.specs.Renders.{Answers}
 use Rattle.to_html.specs.Private.{Last, Finishes}
-use Rattle.passes.proofs.Passing.{Within, none-over}
+use Rattle.room.proofs.Over.{Within, none-over}
 use Rattle.to_html.proofs.Section.{no-calls, with-section, section-refused, section-fits, section-over}
 
 -- ---- a page in the output

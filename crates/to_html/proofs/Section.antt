@@ -18,8 +18,8 @@ use Rattle.machine.specs.Totals.{captured, held, kept, over}
 use Rattle.machine.specs.Run.{page, refused, finish, sectionEnd, runFrom}
 use Rattle.clean.specs.Section.{Appends}
 use Rattle.buffers.proofs.Laws.{push-nil}
-use Rattle.passes.specs.Passing.{run}
-use Rattle.passes.proofs.Passing.{Within, none-over}
+use Rattle.ahead.specs.Reach.{run}
+use Rattle.room.proofs.Over.{Within, none-over}
 
 module _ (events : List ℕ) (room : ℕ) (s : State) where
   pub no-calls : s .kept .calls ≡ [] → run events room [] s ≡ page (s .page)

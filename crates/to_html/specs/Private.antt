@@ -22,7 +22,7 @@ use Rattle.kept.specs.Kept.{Long}
 use Rattle.whole.specs.declared.Whole.{Whole}
 use Rattle.whole.specs.Whole.{World, Built}
 use Rattle.turns.specs.Passing.{turnsLeft}
-use Rattle.passes.specs.Passing.{run, Stands}
+use Rattle.ahead.specs.Reach.{run, Stands}
 use Rattle.to_html.specs.declared.Rendered.{Rendered}
 use Rattle.to_html.specs.declared.Rendered.the-variants.{WorkFull, PageFull}
 use Rattle.to_html.specs.Renders.{Answers}

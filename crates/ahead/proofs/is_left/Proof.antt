@@ -1,8 +1,8 @@
 -- Not wanted, or idle. Assumes nothing.
-use Rattle.passes.proofs.Loop.{leaves-idle, leaves-other}
+use Rattle.ahead.proofs.Left.{leaves-idle, leaves-other}
 use borrow.Author.Needs.{needs}
-use Rattle.passes.proofs.is_left.Statement.{statement}
-use Rattle.passes.proofs.is_left.Tie as tie
+use Rattle.ahead.proofs.is_left.Statement.{statement}
+use Rattle.ahead.proofs.is_left.Tie as tie
 
 is-wanted-requires : tie.Need-is-wanted-requires
 is-wanted-requires c κs = search needs

@@ -1,14 +1,11 @@
--- One event after the other of a pass. Assumes nothing.
+-- The machine's run over one turn of a pass. Assumes nothing.
 use mathlib.Core.Path.{_≡_, refl, sym, ap, subst, _∙_}
-use mathlib.Core.Bool.{Bool, true, false, not, _||_}
-use mathlib.Core.List.{List, [], _∷_, _++_}
-use mathlib.Core.Option.{Option, none, some}
-use Prim.Native.Nat.{ℕ, _+_, _/_, _≤_, _<_}
+use mathlib.Core.Bool.{Bool, true, false}
+use mathlib.Core.List.{List, _∷_, _++_}
+use mathlib.Core.Option.{none}
+use Prim.Native.Nat.{ℕ, _+_, _/_, _<_}
 use native.Mathlib.Omega.{arith}
-use borrow.Author.Tests.{ltb-false}
-use lib.Dec.{ltb}
 use lib.ListN.{length}
-use Rattle.lent.specs.Bytes.{if_then_else_}
 use Rattle.event.specs.declared.Event.{Event}
 use Rattle.event.specs.Event.{eventAt}
 use Rattle.machine.specs.declared.Options.{Options}
@@ -17,7 +14,7 @@ use Rattle.machine.specs.Outcome.{go}
 use Rattle.machine.specs.Turn.{Turn}
 use Rattle.machine.specs.Command.{Command, nothing, exec}
 use Rattle.machine.specs.Handlers.{commandOf, handle}
-use Rattle.machine.specs.Totals.{captured, held, kept, over}
+use Rattle.machine.specs.Totals.{over}
 use Rattle.bounded.specs.Within.{within, Goes, ends, turns}
 use Rattle.clean.proofs.Within.{within-exec}
 use Rattle.whole.specs.declared.Whole.{Whole}
@@ -26,58 +23,10 @@ use Rattle.turns.specs.Turns.{commandFor}
 use Rattle.turns.specs.Loud.{Spare, Turned}
 use Rattle.turns.specs.Passing.{turnsLeft, staysInside, turnAt}
 use Rattle.turns.proofs.Turns.{command-of}
-use Rattle.turns.proofs.Passing.{left-end, left-next, turn-at, run-over, run-on}
-use Rattle.passes.specs.Lacking.{numberOr, Lacks}
-use Rattle.passes.specs.Passing.{run, Stands, Reaches, Refuses, wanted}
-use Rattle.passes.proofs.Lacking.{placed}
-
--- ---- room
-
-pub record Within (room : ℕ) (s : State) : Type 0 where
-  pub captures : captured s ≤ 16384
-  pub held-is : held s ≤ 16384
-  pub kept-is : kept s ≤ 16384
-  pub page : length (s .page) ≤ room
-
-abbrev judge : (a b c d : Bool) → Option ℕ
-judge a b c d = if (a || b || c) then some 8 else (if d then some 9 else none)
-
--- 8 and 9 are no 0
-judged-none : (a b c d : Bool) → numberOr (judge a b c d) ≡ 0 → judge a b c d ≡ none
-judged-none true b c d p = absurd (omega arith)
-judged-none false true c d p = absurd (omega arith)
-judged-none false false true d p = absurd (omega arith)
-judged-none false false false true p = absurd (omega arith)
-judged-none false false false false p = refl
-
-none-judged : (a b c d : Bool) → judge a b c d ≡ none → (a ≡ false) × (b ≡ false) × (c ≡ false) × (d ≡ false)
-none-judged true b c d p = let z : _≡_ {A = ℕ} 0 1 = cc in absurd (omega arith)
-none-judged false true c d p = let z : _≡_ {A = ℕ} 0 1 = cc in absurd (omega arith)
-none-judged false false true d p = let z : _≡_ {A = ℕ} 0 1 = cc in absurd (omega arith)
-none-judged false false false true p = let z : _≡_ {A = ℕ} 0 1 = cc in absurd (omega arith)
-none-judged false false false false p = (refl, refl, refl, refl)
-
-judged-some : (a b c d : Bool) (k : ℕ) → k ≡ numberOr (judge a b c d) → (k ≡ 0 → ⊥) → judge a b c d ≡ some k
-judged-some true b c d k p h = rw p
-judged-some false true c d k p h = rw p
-judged-some false false true d k p h = rw p
-judged-some false false false true k p h = rw p
-judged-some false false false false k p h = absurd (h p)
-
-module _ (room : ℕ) (s : State) where
-  over-none : numberOr (over room s) ≡ 0 → over room s ≡ none
-  unfolding over
-  over-none p = judged-none (ltb 16384 (captured s)) (ltb 16384 (held s)) (ltb 16384 (kept s)) (ltb room (length (s .page))) p
-
-  over-some : (k : ℕ) → k ≡ numberOr (over room s) → (k ≡ 0 → ⊥) → over room s ≡ some k
-  unfolding over
-  over-some k p h = judged-some (ltb 16384 (captured s)) (ltb 16384 (held s)) (ltb 16384 (kept s)) (ltb room (length (s .page))) k p h
-
-  pub none-over : over room s ≡ none → Within room s
-  unfolding over
-  none-over p =
-      let q = none-judged (ltb 16384 (captured s)) (ltb 16384 (held s)) (ltb 16384 (kept s)) (ltb room (length (s .page))) p in
-      record { captures = ltb-false 16384 (captured s) (q .0); held-is = ltb-false 16384 (held s) (q .1); kept-is = ltb-false 16384 (kept s) (q .2); page = ltb-false room (length (s .page)) (q .3) }
+use Rattle.turns.proofs.Passing.{left-next, turn-at, run-on}
+use Rattle.room.proofs.Lacking.{placed}
+use Rattle.room.proofs.Over.{none-over}
+use Rattle.ahead.specs.Reach.{run, Stands, Reaches, wanted}
 
 spare : {text : List ℕ} {room : ℕ} {b : Whole} {w : World} (s : State) → Stands text room b w s → Spare b
 spare {text} {room} {b} {w} s x =
@@ -111,10 +60,7 @@ module _ {text events : List ℕ} {o : Options} {room i : ℕ} {r q : Whole} {w�
       let c = command-of t (eventAt events i) (at .event-is) in
       (f .0, k .turned .handles t u (f .0) at (spare u y) (y .built) (rw c at (f .1)), within-exec (commandOf t) t u (f .0) (f .1), f .2)
 
--- ---- a pass
-
-pub starts-so : {text events : List ℕ} {room : ℕ} {ts : List Turn} {b : Whole} {w : World} → Reaches text events room ts ts b w b w
-starts-so = record { reaches = λ rest s v y g. (s, y, g, refl) }
+-- ---- the turns that are left
 
 module _ (definitions : Bool) {text events : List ℕ} (o : Options) {room : ℕ} {before : List Turn} {b : Whole} {w : World} (inside : Bool) (i : ℕ) {r : Whole} {w′ : World} (h : i < length events / 20)
     (x : Reaches text events room before (turnsLeft definitions text events o inside i) b w r w′) where
@@ -125,7 +71,7 @@ module _ (definitions : Bool) {text events : List ℕ} (o : Options) {room : ℕ
       rw (← z) x
 
   -- the machine's state after the turn, its run, and the code's state
-  turned : wanted definitions inside (eventAt events i) ≡ true → {q : Whole} {w″ : World} → Turned text events o i r w′ q w″ → (rest : List Turn) (s v : State) → Stands text room b w s → Goes (before ++ rest) s v
+  pub turned : wanted definitions inside (eventAt events i) ≡ true → {q : Whole} {w″ : World} → Turned text events o i r w′ q w″ → (rest : List Turn) (s v : State) → Stands text room b w s → Goes (before ++ rest) s v
       → (u y : State) × Built text q w″ y × (handle (turnAt text events o i) u ≡ go y) × Goes (turnsLeft definitions text events o (staysInside inside (eventAt events i)) (i + 1) ++ rest) y v × Stands text room r w′ u
       × (run events room (before ++ rest) s ≡ run events room (turnAt text events o i ∷ (turnsLeft definitions text events o (staysInside inside (eventAt events i)) (i + 1) ++ rest)) u)
   turned p k rest s v y g =
@@ -135,27 +81,6 @@ module _ (definitions : Bool) {text events : List ℕ} (o : Options) {room : ℕ
       let g′ : Goes (turnAt text events o i ∷ (turnsLeft definitions text events o (staysInside inside (eventAt events i)) (i + 1) ++ rest)) (f .0) v = rw z at (f .2) in
       let a = goes-on h k (f .0) v (turnsLeft definitions text events o (staysInside inside (eventAt events i)) (i + 1) ++ rest) (f .1) g′ in
       (f .0, a .0, a .1, a .2, a .3, f .1, rw z at (f .3))
-
-  module _ (p : wanted definitions inside (eventAt events i) ≡ true) {q : Whole} {w″ : World} (k : Turned text events o i r w′ q w″) (l : length (w″ .out) ≡ length (w′ .out)) where
-    pub goes-by : Lacks q room 0 → Reaches text events room before (turnsLeft definitions text events o (staysInside inside (eventAt events i)) (i + 1)) b w q w″
-    goes-by n = record {
-      reaches = λ rest s v y g.
-          let a = turned p k rest s v y g in
-          let c = l ∙ a .5 .long in
-          let e = over-none room (a .1) (sym (n .lacks text w″ (a .1) c (a .2))) in
-          let z = run-on (length events / 20) (over room) (turnAt text events o i) (turnsLeft definitions text events o (staysInside inside (eventAt events i)) (i + 1) ++ rest) (a .0) (a .1) (a .3) e in
-          (a .1, record { built = a .2; long = c; roomy = e }, a .4, a .6 ∙ z);
-    }
-
-    pub refuses-at : {number : ℕ} → Lacks q room number → (number ≡ 0 → ⊥) → Refuses text events room before b w number i
-    unfolding turnAt
-    refuses-at {number} n m = record {
-      refuses = λ rest s v y g.
-          let a = turned p k rest s v y g in
-          let c = l ∙ a .5 .long in
-          let e = over-some room (a .1) number (n .lacks text w″ (a .1) c (a .2)) m in
-          a .6 ∙ run-over (length events / 20) (over room) (turnAt text events o i) (turnsLeft definitions text events o (staysInside inside (eventAt events i)) (i + 1) ++ rest) (a .0) (a .1) (a .3) number e;
-    }
 
 module _ (definitions : Bool) {text events : List ℕ} (o : Options) {room : ℕ} {before : List Turn} {b : Whole} {w : World} (inside : Bool) (i : ℕ) {r : Whole} {w′ : World} (h : i < length events / 20)
     (x : Reaches text events room before (turnsLeft definitions text events o inside i) b w r w′) (n : commandFor (eventAt events i) ≡ nothing) where
@@ -176,7 +101,3 @@ module _ (definitions : Bool) {text events : List ℕ} (o : Options) {room : ℕ
         let z = run-on (length events / 20) (over room) t (turnsLeft definitions text events o (staysInside inside (eventAt events i)) (i + 1) ++ rest) (a .0) (a .1) (a .3) e in
         (a .1, record { built = a .2; long = a .5 .long; roomy = e }, a .4, a .6 ∙ z);
   }
-
-pub ends-so : (definitions : Bool) {text events : List ℕ} (o : Options) {room : ℕ} {before : List Turn} {b : Whole} {w : World} (inside : Bool) (i : ℕ) {r : Whole} {w′ : World} → length events / 20 ≤ i
-    → Reaches text events room before (turnsLeft definitions text events o inside i) b w r w′ → Reaches text events room before [] b w r w′
-ends-so definitions {text} {events} o inside i h x = let z = left-end definitions text events o inside i h in rw (← z) x

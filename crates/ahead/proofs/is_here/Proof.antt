@@ -1,7 +1,7 @@
-use Rattle.passes.proofs.Loop.{here-inside, here-exit, here-enter}
+use Rattle.ahead.proofs.Left.{here-inside, here-exit, here-enter}
 use borrow.Author.Needs.{needs}
-use Rattle.passes.proofs.is_here.Statement.{statement}
-use Rattle.passes.proofs.is_here.Tie as tie
+use Rattle.ahead.proofs.is_here.Statement.{statement}
+use Rattle.ahead.proofs.is_here.Tie as tie
 
 returns : tie.Need-returns
 returns c = search (here-inside, needs)

@@ -1,8 +1,8 @@
 -- Only the pass over definitions jumps. Assumes nothing.
-use Rattle.passes.proofs.Loop.{walks-start, jumps}
+use Rattle.ahead.proofs.Left.{walks-start, jumps}
 use borrow.Author.Needs.{needs}
-use Rattle.passes.proofs.jump.Statement.{statement}
-use Rattle.passes.proofs.jump.Tie as tie
+use Rattle.ahead.proofs.jump.Statement.{statement}
+use Rattle.ahead.proofs.jump.Tie as tie
 
 returns : tie.Need-returns
 returns c = walks-start

@@ -1,8 +1,8 @@
 -- First a jump, then a walk. Assumes nothing.
-use Rattle.passes.proofs.Loop.{then-ahead}
+use Rattle.ahead.proofs.Left.{then-ahead}
 use borrow.Author.Needs.{needs}
-use Rattle.passes.proofs.ahead.Statement.{statement}
-use Rattle.passes.proofs.ahead.Tie as tie
+use Rattle.ahead.proofs.ahead.Statement.{statement}
+use Rattle.ahead.proofs.ahead.Tie as tie
 
 jump-requires : tie.Need-jump-requires
 jump-requires c κs = search needs

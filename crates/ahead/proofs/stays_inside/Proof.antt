@@ -1,8 +1,8 @@
 use mathlib.Core.Path.{sym, _∙_}
-use Rattle.passes.proofs.Loop.{stays-out, stays-entered, stays-by}
+use Rattle.ahead.proofs.Left.{stays-out, stays-entered, stays-by}
 use borrow.Author.Needs.{needs}
-use Rattle.passes.proofs.stays_inside.Statement.{statement}
-use Rattle.passes.proofs.stays_inside.Tie as tie
+use Rattle.ahead.proofs.stays_inside.Statement.{statement}
+use Rattle.ahead.proofs.stays_inside.Tie as tie
 
 is-here-requires : tie.Need-is-here-requires
 is-here-requires c κs = search needs

@@ -1,8 +1,8 @@
 -- By the law on both tests. Assumes nothing.
-use Rattle.passes.proofs.Loop.{is-definition}
+use Rattle.ahead.proofs.Left.{is-definition}
 use borrow.Author.Needs.{needs}
-use Rattle.passes.proofs.is_definition.Statement.{statement}
-use Rattle.passes.proofs.is_definition.Tie as tie
+use Rattle.ahead.proofs.is_definition.Statement.{statement}
+use Rattle.ahead.proofs.is_definition.Tie as tie
 
 kind-at-requires : tie.Need-kind-at-requires
 kind-at-requires c κs = search needs

@@ -1,7 +1,7 @@
-use Rattle.passes.proofs.Loop.{wanted-first, wanted-second}
+use Rattle.ahead.proofs.Left.{wanted-first, wanted-second}
 use borrow.Author.Needs.{needs}
-use Rattle.passes.proofs.is_wanted.Statement.{statement}
-use Rattle.passes.proofs.is_wanted.Tie as tie
+use Rattle.ahead.proofs.is_wanted.Statement.{statement}
+use Rattle.ahead.proofs.is_wanted.Tie as tie
 
 is-here-requires : tie.Need-is-here-requires
 is-here-requires c κs = search needs

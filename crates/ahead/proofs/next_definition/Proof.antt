@@ -5,10 +5,10 @@ use Prim.Native.Nat.{_/_, _-_}
 use native.Mathlib.Omega.{arith}
 use lib.ListN.{length}
 use borrow.Author.Needs.{needs}
-use Rattle.passes.specs.Private.{Walks}
-use Rattle.passes.proofs.Loop.{walks-start, walks-between}
-use Rattle.passes.proofs.next_definition.Statement.{statement}
-use Rattle.passes.proofs.next_definition.Tie as tie
+use Rattle.ahead.specs.Walks.{Walks}
+use Rattle.ahead.proofs.Left.{walks-start, walks-between}
+use Rattle.ahead.proofs.next_definition.Statement.{statement}
+use Rattle.ahead.proofs.next_definition.Tie as tie
 
 abbrev Inv-loop : tie.InvT-loop
 Inv-loop events from n i₀ i = (n ≡ length events / 20) × Walks true events false from false i

@@ -13,7 +13,7 @@ use Rattle.machine.specs.Totals.{sizes, captured, held, kept, over}
 use Rattle.whole.specs.declared.Whole.{Whole}
 use Rattle.whole.specs.Whole.{World, Built}
 use Rattle.whole.proofs.Parts.{front-long}
-use Rattle.passes.specs.Lacking.{numberOr, Lacks}
+use Rattle.room.specs.Lacking.{numberOr, Lacks}
 
 flat-long : (cs : List (List ℕ)) → length (flat cs) ≡ sizes cs
 flat-long [] = refl

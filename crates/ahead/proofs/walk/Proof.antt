@@ -4,10 +4,10 @@ use Prim.Native.Nat.{_/_, _-_}
 use native.Mathlib.Omega.{arith}
 use lib.ListN.{length}
 use borrow.Author.Needs.{needs}
-use Rattle.passes.specs.Private.{Walks}
-use Rattle.passes.proofs.Loop.{walks-start, walks-on, ahead-here, ahead-end}
-use Rattle.passes.proofs.walk.Statement.{statement}
-use Rattle.passes.proofs.walk.Tie as tie
+use Rattle.ahead.specs.Walks.{Walks}
+use Rattle.ahead.proofs.Left.{walks-start, walks-on, ahead-here, ahead-end}
+use Rattle.ahead.proofs.walk.Statement.{statement}
+use Rattle.ahead.proofs.walk.Tie as tie
 
 abbrev Inv-loop : tie.InvT-loop
 Inv-loop first events n at₀ inside₀ at inside = (n ≡ length events / 20) × Walks first events inside₀ at₀ inside at

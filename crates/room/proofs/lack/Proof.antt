@@ -1,7 +1,7 @@
 -- In the order of the numbers.
-use Rattle.passes.proofs.lack.Statement.{statement}
-use Rattle.passes.proofs.lack.Tie as tie
-use Rattle.passes.proofs.Lacking.{captures-lack, held-lacks, kept-lacks, page-lacks, none-lacks}
+use Rattle.room.proofs.lack.Statement.{statement}
+use Rattle.room.proofs.lack.Tie as tie
+use Rattle.room.proofs.Lacking.{captures-lack, held-lacks, kept-lacks, page-lacks, none-lacks}
 
 returns : tie.Need-returns
 returns c = search captures-lack

@@ -1,0 +1,131 @@
+// Where a pass goes next: the first event from a place on at which something is to be done.
+ghost use Prim.Native.Nat.{_/_, _<_};
+ghost use mathlib.Core.Bool.{true, false};
+ghost use mathlib.Core.Path.{_≡_};
+ghost use lib.ListN.{length};
+ghost use Rattle.event.specs.Event.{eventAt};
+ghost use Rattle.turns.specs.Passing.{isHere, staysInside};
+ghost use Rattle.ahead.specs.Reach.{wanted};
+ghost use Rattle.ahead.specs.Walks.{Leaves, Walks, Ahead};
+use event::Event;
+use event::EventIndex;
+
+// Where a pass stands: before the event at an index, inside a definition or not.
+pub struct Place {
+    pub at: usize,
+    pub inside: bool,
+}
+
+// Whether the event at an index is in a definition, whose enter and exit are.
+fn is_here(inside: bool, events: &[u8], i: EventIndex) -> bool
+    requires { ⌜ i .0 < length (now events) / 20 ⌝ }
+    ensures { λ r. ⌜ r ≡ isHere inside (eventAt (now (events .entry)) (i .0)) ⌝ }
+{
+    if inside {
+        return true;
+    }
+    if event::kind_at(events, i) != Event::ENTER {
+        return false;
+    }
+    event::name_at(events, i) == Event::DEFINITION
+}
+
+// Whether the next one is.
+pub fn stays_inside(inside: bool, events: &[u8], i: EventIndex) -> bool
+    requires { ⌜ i .0 < length (now events) / 20 ⌝ }
+    ensures { λ r. ⌜ r ≡ staysInside inside (eventAt (now (events .entry)) (i .0)) ⌝ }
+{
+    if is_here(inside, events, i) {
+        if event::kind_at(events, i) == Event::ENTER {
+            return true;
+        }
+        return event::name_at(events, i) != Event::DEFINITION;
+    }
+    false
+}
+
+// Whether the event is the pass's.
+fn is_wanted(definitions: bool, inside: bool, events: &[u8], i: EventIndex) -> bool
+    requires { ⌜ i .0 < length (now events) / 20 ⌝ }
+    ensures { λ r. ⌜ r ≡ wanted definitions inside (eventAt (now (events .entry)) (i .0)) ⌝ }
+{
+    if definitions {
+        return is_here(inside, events, i);
+    }
+    !is_here(inside, events, i)
+}
+
+// Whether nothing is to be done at the event: it is not the pass's, or it has no handler.
+fn is_left(first: bool, inside: bool, events: &[u8], i: EventIndex) -> bool
+    requires { ⌜ i .0 < length (now events) / 20 ⌝ }
+    ensures { λ r. ⌜ Leaves first inside (eventAt (now (events .entry)) (i .0)) r ⌝ }
+{
+    if is_wanted(first, inside, events, i) {
+        return idle::is_idle(event::kind_at(events, i), event::name_at(events, i));
+    }
+    true
+}
+
+// Whether the event at an index is the enter of a definition. Both are compared, so that no branch is foreseen wrongly.
+fn is_definition(events: &[u8], i: EventIndex) -> bool
+    requires { ⌜ i .0 < length (now events) / 20 ⌝ }
+    ensures { λ r. ⌜ r ≡ isHere false (eventAt (now (events .entry)) (i .0)) ⌝ }
+{
+    let kind = event::kind_at(events, i);
+    let name = event::name_at(events, i);
+    (kind == Event::ENTER) & (name == Event::DEFINITION)
+}
+
+// The first one from an index on, or the end.
+fn next_definition(events: &[u8], from: usize) -> usize
+    ensures { λ r. ⌜ Walks true (now (events .entry)) false from false r ⌝ }
+{
+    let n = event::count(events);
+    let mut i = from;
+    while i < n {
+        if is_definition(events, EventIndex(i)) {
+            return i;
+        }
+        i += 1;
+    }
+    i
+}
+
+// The pass over definitions need not look at what is between them.
+fn jump(first: bool, p: Place, events: &[u8]) -> Place
+    ensures { λ r. ⌜ Walks first (now (events .entry)) (p .inside) (p .at) (r .inside) (r .at) ⌝ }
+{
+    if first {
+        if p.inside {
+            return p;
+        }
+        let at = next_definition(events, p.at);
+        return Place { at, inside: false };
+    }
+    p
+}
+
+// The first event from a place on at which something is to be done, or the end.
+fn walk(first: bool, p: Place, events: &[u8]) -> Place
+    ensures { λ r. ⌜ Ahead first (now (events .entry)) p r ⌝ }
+{
+    let n = event::count(events);
+    let mut at = p.at;
+    let mut inside = p.inside;
+    while at < n {
+        let i = EventIndex(at);
+        if is_left(first, inside, events, i) {
+            inside = stays_inside(inside, events, i);
+            at += 1;
+            continue;
+        }
+        return Place { at, inside };
+    }
+    Place { at, inside }
+}
+
+pub fn ahead(first: bool, p: Place, events: &[u8]) -> Place
+    ensures { λ r. ⌜ Ahead first (now (events .entry)) p r ⌝ }
+{
+    walk(first, jump(first, p, events), events)
+}
