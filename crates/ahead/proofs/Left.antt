@@ -109,7 +109,20 @@ module _ {first : Bool} {events : List ℕ} where
 pub walks-between : {events : List ℕ} {from i : ℕ} {x : Bool} → Walks true events false from false i → i < length events / 20 → x ≡ isHere false (eventAt events i) → x ≡ false → Walks true events false from false (i + 1)
 walks-between {events} {from} {i} k h p q = walks-on {p = record { at = from; inside = false }} k h (stays-out (eventAt events i) false (sym p ∙ q)) (leaves-other (eventAt events i) (wanted-first (eventAt events i) false p refl) q) refl
 
--- no branch is taken in the test
-pub is-definition : (e : Event) {kind name : ℕ} → kind ≡ e .kind → name ≡ e .name → (eqb kind 0 && eqb name 53) ≡ isHere false e
-unfolding isHere
-is-definition e {name = name} k n = rw (← k, ← n, ← or-no (eqb name 53))
+-- by the name first
+and-no : (x : Bool) → false ≡ (x && false)
+and-no true = refl
+and-no false = refl
+
+and-yes : (x : Bool) → x ≡ (x && true)
+and-yes true = refl
+and-yes false = refl
+
+module _ (e : Event) {name : ℕ} (n : name ≡ e .name) where
+  pub of-another : (name ≡ 53 → ⊥) → false ≡ isHere false e
+  unfolding isHere
+  of-another h = rw (← n, ne-eqb name 53 h) (and-no (eqb (e .kind) 0))
+
+  pub of-definition : {kind : ℕ} → name ≡ 53 → kind ≡ e .kind → eqb kind 0 ≡ isHere false e
+  unfolding isHere
+  of-definition {kind} h k = rw (← k, ← n, h) (and-yes (eqb kind 0))

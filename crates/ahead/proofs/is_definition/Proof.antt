@@ -1,17 +1,20 @@
--- By the law on both tests. Assumes nothing.
-use Rattle.ahead.proofs.Left.{is-definition}
+-- By the name first.
 use borrow.Author.Needs.{needs}
+use Rattle.ahead.proofs.Left.{of-another, of-definition}
 use Rattle.ahead.proofs.is_definition.Statement.{statement}
 use Rattle.ahead.proofs.is_definition.Tie as tie
-
-kind-at-requires : tie.Need-kind-at-requires
-kind-at-requires c κs = search needs
 
 name-at-requires : tie.Need-name-at-requires
 name-at-requires c κs = search needs
 
 returns : tie.Need-returns
-returns c = search (is-definition, needs)
+returns c = search (of-another, needs)
+
+kind-at-requires : tie.Need-kind-at-requires
+kind-at-requires c κs = search needs
+
+returns-2 : tie.Need-returns-2
+returns-2 c = search (of-definition, needs)
 
 pub is-definition-spec : {M : Type 1} → statement M
-is-definition-spec = tie.close (tie.spec kind-at-requires name-at-requires returns)
+is-definition-spec = tie.close (tie.spec name-at-requires returns kind-at-requires returns-2)
