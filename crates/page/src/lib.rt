@@ -14,35 +14,35 @@ use written::Written;
 pub fn escape(text: &[u8], encoding: bool, out: &mut [u8]) -> Written
     ensures { λ r. ⌜ Wrote (now (text .entry)) (encodeOf encoding (now (text .entry))) (now (out .entry)) (now (out .exit)) r ⌝ }
 {
-    written::escape(text, encoding, out)
+    texts::escape(text, encoding, out)
 }
 
 // Makes a URL safe for an attribute.
 pub fn sanitize(url: &[u8], out: &mut [u8]) -> Written
     ensures { λ r. ⌜ Wrote (now (url .entry)) (sanitizeOf (now (url .entry))) (now (out .entry)) (now (out .exit)) r ⌝ }
 {
-    written::sanitize(url, out)
+    texts::sanitize(url, out)
 }
 
 // The same for a link: a URL with another scheme than 01's six becomes empty.
 pub fn sanitize_link(url: &[u8], out: &mut [u8]) -> Written
     ensures { λ r. ⌜ Wrote (now (url .entry)) (sanitizeWithProtocolsOf linkSchemes (now (url .entry))) (now (out .entry)) (now (out .exit)) r ⌝ }
 {
-    written::sanitize_link(url, out)
+    texts::sanitize_link(url, out)
 }
 
 // The same for an image, whose schemes are http and https.
 pub fn sanitize_image(url: &[u8], out: &mut [u8]) -> Written
     ensures { λ r. ⌜ Wrote (now (url .entry)) (sanitizeWithProtocolsOf imageSchemes (now (url .entry))) (now (out .entry)) (now (out .exit)) r ⌝ }
 {
-    written::sanitize_image(url, out)
+    texts::sanitize_image(url, out)
 }
 
 // What a label is compared by.
 pub fn identity(label: &[u8], out: &mut [u8]) -> Written
     ensures { λ r. ⌜ Wrote (now (label .entry)) (identityOf (now (label .entry))) (now (out .entry)) (now (out .exit)) r ⌝ }
 {
-    written::identity(label, out)
+    texts::identity(label, out)
 }
 
 // Whether a text and its events meet 01's rules.

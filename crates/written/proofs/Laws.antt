@@ -13,41 +13,17 @@ use Rattle.lent.specs.Bytes.{if_then_else_}
 use Rattle.lent.specs.Fill.{fill, past, zeros, Filled}
 use Rattle.lent.proofs.Laws.{length-filled, take-fill}
 use Rattle.utf8.specs.Utf8.{isUtf8}
-use Rattle.encode.specs.Encode.{encodeOf}
-use Rattle.sanitize_uri.specs.Url.{sanitizeOf}
-use Rattle.sanitize_uri.specs.Protocols.{linkSchemes, imageSchemes, sanitizeWithProtocolsOf}
-use Rattle.normalize_identifier.specs.Identity.{identityOf}
-use Rattle.written.specs.declared.Job.{Job}
-use Rattle.written.specs.declared.Job.the-variants.{Escape, Sanitize, SanitizeLink, SanitizeImage, Identity}
 use Rattle.written.specs.declared.Taken.{Taken}
 use Rattle.written.specs.declared.Taken.the-variants.{Yes, Refused}
 use Rattle.written.specs.declared.Written.{Written}
 use Rattle.written.specs.declared.Written.the-variants.{Length, TooLong, NotUtf8, NoRoom}
-use Rattle.written.specs.Written.{answerOf, bytesOf, resultOf, takenOf, Ended, Refuses, Wrote}
+use Rattle.written.specs.Written.{answerOf, bytesOf, takenOf, Ended, Refuses, Wrote}
 
 -- two results that meet a contract are equal
 pub unique : {text result d e f : List ℕ} {a b : Written} → Wrote text result d e a → Wrote text result d f b → (a ≡ b) × (e ≡ f)
 unique {result = result} {d = d} p q =
     let h = p .answer ∙ sym (q .answer) in
     (h, p .bytes ∙ ap (λ (w : Written). bytesOf w result (length d)) h ∙ sym (q .bytes))
-
--- ---- what a call makes of its text
-
-module _ (job : Job) (text : List ℕ) where
-  pub escapes : (encoding : Bool) → job ≡ Escape encoding → resultOf job text ≡ encodeOf encoding text
-  escapes encoding p = rw p
-
-  pub sanitizes : job ≡ Sanitize → resultOf job text ≡ sanitizeOf text
-  sanitizes p = rw p
-
-  pub sanitizes-link : job ≡ SanitizeLink → resultOf job text ≡ sanitizeWithProtocolsOf linkSchemes text
-  sanitizes-link p = rw p
-
-  pub sanitizes-image : job ≡ SanitizeImage → resultOf job text ≡ sanitizeWithProtocolsOf imageSchemes text
-  sanitizes-image p = rw p
-
-  pub identifies : job ≡ Identity → resultOf job text ≡ identityOf text
-  identifies p = rw p
 
 -- ---- 1 and 2
 

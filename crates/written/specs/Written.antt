@@ -1,4 +1,4 @@
--- The calls that write a text: their answers, 01's numbers for them, and every byte afterwards. Assumes nothing.
+-- Calls that write a text: their answers, 01's numbers for them, and every byte afterwards. Assumes nothing.
 use mathlib.Core.Path.{_≡_}
 use mathlib.Core.Bool.{Bool, not}
 use mathlib.Core.List.{List, _++_}
@@ -8,12 +8,6 @@ use lib.ListN.{length, take}
 use Rattle.lent.specs.Bytes.{if_then_else_}
 use Rattle.lent.specs.Fill.{zeros}
 use Rattle.utf8.specs.Utf8.{isUtf8}
-use Rattle.encode.specs.Encode.{encodeOf}
-use Rattle.sanitize_uri.specs.Url.{sanitizeOf}
-use Rattle.sanitize_uri.specs.Protocols.{linkSchemes, imageSchemes, sanitizeWithProtocolsOf}
-use Rattle.normalize_identifier.specs.Identity.{identityOf}
-use Rattle.written.specs.declared.Job.{Job}
-use Rattle.written.specs.declared.Job.the-variants.{Escape, Sanitize, SanitizeLink, SanitizeImage, Identity}
 use Rattle.written.specs.declared.Taken.{Taken}
 use Rattle.written.specs.declared.Taken.the-variants.{Yes, Refused}
 use Rattle.written.specs.declared.Written.{Written}
@@ -54,14 +48,6 @@ pub record Wrote (text result d e : List ℕ) (r : Written) : Type 0 where
   pub bytes : e ≡ bytesOf r result (length d)
 
 -- ---- said for the inner functions, no part of the promise
-
--- what a call makes of its text
-abbrev pub resultOf : Job → List ℕ → List ℕ
-resultOf (Escape encoding) text = encodeOf encoding text
-resultOf Sanitize text = sanitizeOf text
-resultOf SanitizeLink text = sanitizeWithProtocolsOf linkSchemes text
-resultOf SanitizeImage text = sanitizeWithProtocolsOf imageSchemes text
-resultOf Identity text = identityOf text
 
 -- 1 and 2 alone
 unfoldable pub takenOf : List ℕ → Taken

@@ -1,9 +1,9 @@
 -- Each job appends what `resultOf` says. Assumes nothing.
 use Rattle.lent.proofs.Laws.{same}
-use Rattle.written.proofs.Laws.{escapes, sanitizes, sanitizes-link, sanitizes-image, identifies}
+use Rattle.texts.proofs.Jobs.{escapes, sanitizes, sanitizes-link, sanitizes-image, identifies}
 use borrow.Author.Needs.{needs}
-use Rattle.written.proofs.append.Statement.{statement}
-use Rattle.written.proofs.append.Tie as tie
+use Rattle.texts.proofs.append.Statement.{statement}
+use Rattle.texts.proofs.append.Tie as tie
 
 enum-known-job : tie.Need-enum-known-job
 enum-known-job c = search needs

@@ -1,8 +1,8 @@
 -- Refused, or written and ended. Assumes nothing.
 use Rattle.written.proofs.Laws.{refused, wrote}
 use borrow.Author.Needs.{needs}
-use Rattle.written.proofs.write.Statement.{statement}
-use Rattle.written.proofs.write.Tie as tie
+use Rattle.texts.proofs.write.Statement.{statement}
+use Rattle.texts.proofs.write.Tie as tie
 
 take-text-requires : tie.Need-take-text-requires
 take-text-requires c κs = search needs
