@@ -1,12 +1,11 @@
 -- How commands go together: one law for each way. Assumes nothing.
-use mathlib.Core.Path.{_≡_, refl, sym, ap, _∙_}
+use mathlib.Core.Path.{_≡_, refl, sym, _∙_}
 use mathlib.Core.Bool.{Bool, true, false, not}
 use mathlib.Core.List.{List, [], _∷_}
 use mathlib.Core.Option.{Option, none, some}
 use Prim.Native.Nat.{ℕ}
 use Prim.Native.String.{String}
 use native.Mathlib.Omega.{arith}
-use lib.ListN.{length}
 use borrow.Author.Tests.{not-true, not-false}
 use Rattle.lent.specs.Bytes.{bytes}
 use Rattle.event.specs.declared.Event.{Event}
@@ -21,7 +20,7 @@ use Rattle.machine.specs.Command.{Command, nothing, _▸_, whether, put, tag, e
 use Rattle.bounded.specs.Within.{within}
 use Rattle.bounded.proofs.Bounds.{done}
 use Rattle.context.specs.declared.Context.{Context}
-use Rattle.context.specs.Rel.{Rel, Any, Keeps, Sets, Pushes, PushesTag, Tells, FenceBefore, HtmlAllowed, IsLast, Sees, SeesEnding, Opens, Begins}
+use Rattle.context.specs.Rel.{Rel, Any, Keeps, Sets, Pushes, PushesTag, Tells, FenceBefore, HtmlAllowed, IsLast, SeesEnding, Opens, Begins}
 use Rattle.context.proofs.Plain.{never}
 
 -- ---- outcomes
@@ -75,27 +74,22 @@ module _ {View : Turn → Type 0} where
         rw (← q) (k .pushes b s x);
   }
 
-  -- ---- flags
+-- ---- flags
 
-  pub tells-alt : {c : Context} → Tells View (is alt) c (c .flags .alt)
-  unfolding test
-  tells-alt = record { tells = λ t w o b s y v x p. (let q : s .flags .alt ≡ y = cc in sym q ∙ sym (ap (λ f. f .alt) (x .flags))) }
+pub told : {View : Turn → Type 0} {q : Test} {c : Context} {x : Bool} → Tells Any q c x → Tells View q c x
+told a = record { tells = λ t w o b s y v r p. a .tells t w o b s y (record {}) r p }
 
-  -- a tag: none in an image's text
-  pub no-tag : {text : String} {c : Context} {w o : List ℕ} → c .flags .alt ≡ true → Keeps View (tag text) c w o c w o
-  no-tag h = whether-yes tells-alt h idle
+pub flag-told : {f : Flag} {c : Context} {w o b : List ℕ} {s : State} {x : Bool} → Tells Any (is f) c x → (t : Turn) → Rel c w o b s → flagOf f (s .flags) ≡ x
+unfolding test
+flag-told {f} {w = w} {o = o} {b = b} {s = s} a t r = a .tells t w o b s (flagOf f (s .flags)) (record {}) r refl
 
-  pub tags : {text : String} {c r : Context} {w o w′ o′ : List ℕ} → c .flags .alt ≡ false → Pushes (bytes text) c w o r w′ o′ → Keeps View (tag text) c w o r w′ o′
-  tags h k = whether-no tells-alt h (puts k)
+-- a tag: none in an image's text
+module _ {text : List ℕ} {c : Context} {w o : List ℕ} {x : Bool} (a : Tells Any (is alt) c x) where
+  pub untagged : x ≡ true → PushesTag text c w o c w o
+  untagged h = record { tags = λ name p. whether-yes a h idle }
 
--- ---- tags
-
-module _ {text : List ℕ} {c : Context} {w o : List ℕ} where
-  pub untagged : c .flags .alt ≡ true → PushesTag text c w o c w o
-  untagged h = record { tags = λ name p. no-tag h }
-
-  pub tagged : {r : Context} {w′ o′ : List ℕ} → c .flags .alt ≡ false → Pushes text c w o r w′ o′ → PushesTag text c w o r w′ o′
-  tagged h k = record { tags = λ name p. tags h (rw p k) }
+  pub tagged : {r : Context} {w′ o′ : List ℕ} → x ≡ false → Pushes text c w o r w′ o′ → PushesTag text c w o r w′ o′
+  tagged h k = record { tags = λ name p. whether-no a h (puts (rw p k)) }
 
 pub tag-of : {View : Turn → Type 0} {name : String} {c r : Context} {w o w′ o′ : List ℕ} → PushesTag (bytes name) c w o r w′ o′ → Keeps View (tag name) c w o r w′ o′
 tag-of {name = name} k = any (k .tags name refl)
@@ -113,9 +107,6 @@ unmet {x = x} a h k = whether-no a (not-true x h) k
 pub met : {View : Turn → Type 0} {q : Test} {d e : Command} {c r : Context} {w o w′ o′ : List ℕ} {x : Bool} → Tells View q c x → not x ≡ false → Keeps View d c w o r w′ o′ → Keeps View (whether q d e) c w o r w′ o′
 met {x = x} a h k = whether-yes a (not-false x h) k
 
-pub told : {View : Turn → Type 0} {q : Test} {c : Context} {x : Bool} → Tells Any q c x → Tells View q c x
-told a = record { tells = λ t w o b s y v r p. a .tells t w o b s y (record {}) r p }
-
 pub tells-fence : {c : Context} {x : Bool} → Tells (FenceBefore x) isBehindFence c x
 unfolding test
 tells-fence = record { tells = λ t w o b s y v r p. fence-there (justBefore (t .before)) refl y v p }
@@ -128,10 +119,6 @@ tells-fence = record { tells = λ t w o b s y v r p. fence-there (justBefore (t 
 
 pub narrow : {View Wide : Turn → Type 0} {d : Command} {c r : Context} {w o w′ o′ : List ℕ} → ((t : Turn) → View t → Wide t) → Keeps Wide d c w o r w′ o′ → Keeps View d c w o r w′ o′
 narrow f k = record { keeps = λ t b s u v x p. k .keeps t b s u (f t v) x p }
-
-pub tells-flag : {View : Turn → Type 0} {c : Context} (f : Flag) → Tells View (is f) c (flagOf f (c .flags))
-unfolding test
-tells-flag f = record { tells = λ t w o b s y v x p. (let q : flagOf f (s .flags) ≡ y = cc in sym q ∙ ap (flagOf f) (sym (x .flags))) }
 
 pub tells-html : {c : Context} {x : Bool} → Tells (HtmlAllowed x) isHtmlAllowed c x
 unfolding test

@@ -26,7 +26,7 @@ use Rattle.context.specs.Rel.{Rel, Any, Keeps, Pushes, Tells}
 -- ---- the buffers alone
 
 abbrev pub withBuffers : Buffers → Context → Context
-withBuffers x c = record { buffers = x; flags = c .flags; waiting = c .waiting; tight = c .tight; table = c .table; ending = c .ending }
+withBuffers x c = record { buffers = x; word = c .word; rank = c .rank; tight = c .tight; table = c .table; ending = c .ending }
 
 -- what is not in the buffers is as it was
 pub record Elsewhere (s u : State) : Type 0 where

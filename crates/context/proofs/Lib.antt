@@ -1,7 +1,9 @@
 pub mod Laws
 pub mod Plain
+pub mod Digits
 pub mod Containers
 pub mod Awaited
+pub mod Fences
 pub mod Start
 pub mod Commands
 pub mod Slices

@@ -1,17 +1,13 @@
--- What is set without a byte, and the flags. Assumes nothing.
-use mathlib.Core.Path.{_≡_, refl, ap}
-use mathlib.Core.Bool.{Bool, true}
+-- What is set without a byte. Assumes nothing.
+use mathlib.Core.Path.{_≡_}
+use mathlib.Core.Bool.{true}
 use mathlib.Core.List.{List}
-use Prim.Native.Nat.{ℕ, _-_}
+use Prim.Native.Nat.{ℕ}
 use native.Mathlib.Omega.{arith}
-use lib.ListN.{length}
-use Rattle.machine.specs.declared.Flags.{Flags}
 use Rattle.machine.specs.State.{State}
 use Rattle.machine.specs.Outcome.{stop, go}
-use Rattle.machine.specs.Set.{Flag, withFlag, setFlag}
 use Rattle.machine.specs.Turn.{Turn}
-use Rattle.machine.specs.Test.{has}
-use Rattle.machine.specs.Command.{Command, set, exec}
+use Rattle.machine.specs.Command.{Command}
 use Rattle.buffers.specs.declared.Buffers.{Buffers}
 use Rattle.buffers.specs.Stand.{Stand}
 use Rattle.bounded.specs.Within.{fitting, one, within}
@@ -37,14 +33,3 @@ setting f e k =
         keeps = λ t b s u v x p. (let g = done true (go (f s)) u (rw (e t s) at p) in let h = g .went in let q : f s ≡ u = cc in rw (← q) (k w o b s (rw (← q) at (g .fits)) x));
       };
     }
-
--- ---- flags
-
-abbrev withFlags : Flags → Context → Context
-withFlags x c = record { buffers = c .buffers; flags = x; waiting = c .waiting; tight = c .tight; table = c .table; ending = c .ending }
-
-pub flag : {c : Context} (f : Flag) (x : Bool) → Sets (set f x) c (withFlags (withFlag f x (c .flags)) c)
-unfolding exec within
-flag f x =
-    setting (setFlag f x) (λ t s. refl)
-    (λ w o b s i r. record { stand = stands (r .stand) refl refl; flags = ap (withFlag f x) (r .flags); waits = r .waits; tight = r .tight; table = r .table; ending = r .ending })

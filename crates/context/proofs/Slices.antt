@@ -1,5 +1,5 @@
 -- Slices of the text, and captures opened and taken off. Assumes nothing.
-use mathlib.Core.Path.{_≡_, refl, sym, ap, ap₂, _∙_}
+use mathlib.Core.Path.{_≡_, refl, sym, ap, _∙_}
 use mathlib.Core.Bool.{Bool, true, false, _&&_}
 use mathlib.Core.List.{List, [], _∷_, _++_}
 use Prim.Native.Nat.{ℕ, suc, _-_, _≤_, _<_}
@@ -13,12 +13,12 @@ use Rattle.lent.proofs.Laws.{and-left, and-right}
 use Rattle.utf8.specs.Utf8.{isUtf8}
 use Rattle.encode.specs.Encode.{encodeOf}
 use Rattle.event.specs.declared.Event.{Event}
-use Rattle.machine.specs.declared.Flags.{Flags}
-use Rattle.machine.specs.State.{State, Span}
-use Rattle.machine.specs.Outcome.{Outcome, stop, go, _>>=_}
-use Rattle.machine.specs.Set.{setCaptures}
-use Rattle.machine.specs.Buffers.{push, pushEncoded, openCapture, takeCapture, takeFrom}
+use Rattle.machine.specs.State.{State}
+use Rattle.machine.specs.Outcome.{stop, go, _>>=_}
+use Rattle.machine.specs.Set.{encode, setCaptures}
+use Rattle.machine.specs.Buffers.{push, pushEncoded, openCapture, takeCapture}
 use Rattle.machine.specs.Turn.{Turn, spanOf, sliceOf, asStr, strOf, ownStr}
+use Rattle.machine.specs.Test as Test
 use Rattle.machine.specs.Command as Command
 use Rattle.machine.specs.Command.{Command, _▸_, slice, buffer, exec}
 use Rattle.buffers.specs.declared.Buffers.{Buffers}
@@ -27,10 +27,10 @@ use Rattle.buffers.specs.Stand.{Stand}
 use Rattle.bounded.specs.Within.{one, within}
 use Rattle.bounded.proofs.Bounds.{done, fits}
 use Rattle.context.specs.declared.Context.{Context}
-use Rattle.context.specs.Rel.{Rel, Any, Sees, Keeps, Takes, Opens, Begins, Ends}
-use Rattle.context.proofs.Laws.{withBuffers, rel-buffers, pushed, Elsewhere}
+use Rattle.context.specs.Rel.{Rel, Any, Sees, Keeps, Takes, Opens, Begins, Ends, Tells}
+use Rattle.context.proofs.Laws.{withBuffers, rel-buffers, pushed}
 use Rattle.context.proofs.Plain.{never}
-use Rattle.context.proofs.Commands.{first-goes}
+use Rattle.context.proofs.Commands.{first-goes, flag-told}
 
 -- ---- the event's slice
 
@@ -90,12 +90,12 @@ module _ (text : List ℕ) (e : Event) where
     pub owned-out : {c : Context} {w o : List ℕ} → length text < e .to .0 → Keeps (Sees text e) d c w o c w o
     owned-out h = nowhere (λ b k. omega (arith, k .inside))
 
-    pub owned-pushes : {c : Context} {w o : List ℕ} (g : List ℕ) → ((t : Turn) (s : State) → Sees text e t → c .flags ≡ s .flags → g ≡ f t s (take (e .to .0 - e .from .0) (drop (e .from .0) text))) → {x : Buffers} {w′ o′ : List ℕ} → Stand.Keeps (push g) (c .buffers) w o x w′ o′
+    pub owned-pushes : {c : Context} {w o : List ℕ} {y : Bool} → Tells Any (Test.is encode) c y → (g : List ℕ) → ((t : Turn) (s : State) → Sees text e t → s .flags .encode ≡ y → g ≡ f t s (take (e .to .0 - e .from .0) (drop (e .from .0) text))) → {x : Buffers} {w′ o′ : List ℕ} → Stand.Keeps (push g) (c .buffers) w o x w′ o′
         → Keeps (Sees text e) d c w o (withBuffers x c) w′ o′
-    owned-pushes {c} g i {x} k = record {
+    owned-pushes a g i k = record {
       keeps = λ t b s u v y p.
           let q = owned t s u v p in
-          let j : g ≡ f t s (q .0) = i t s v (y .flags) ∙ ap (f t s) (sym (q .1 .bytes)) in
+          let j : g ≡ f t s (q .0) = i t s v (flag-told a t y) ∙ ap (f t s) (sym (q .1 .bytes)) in
           let h : push g s ≡ u = ap (λ (l : List ℕ). push l s) j ∙ q .2 in
           rw (← h) (rel-buffers y (pushed g s) (k .keeps b s (y .stand)));
     }
@@ -107,9 +107,9 @@ module _ (text : List ℕ) (e : Event) where
     pub slice-out : length text < e .to .0 → Keeps (Sees text e) slice c w o c w o
     slice-out h = owned-out slice encoded is-slice h
 
-    pub slices : {x : Buffers} {w′ o′ : List ℕ} → Stand.Keeps (push (encodeOf (c .flags .encode) (take (e .to .0 - e .from .0) (drop (e .from .0) text)))) (c .buffers) w o x w′ o′
+    pub slices : {y : Bool} {x : Buffers} {w′ o′ : List ℕ} → Tells Any (Test.is encode) c y → Stand.Keeps (push (encodeOf y (take (e .to .0 - e .from .0) (drop (e .from .0) text)))) (c .buffers) w o x w′ o′
         → Keeps (Sees text e) slice c w o (withBuffers x c) w′ o′
-    slices k = owned-pushes slice encoded is-slice (encodeOf (c .flags .encode) (take (e .to .0 - e .from .0) (drop (e .from .0) text))) (λ t s v i. rw i) k
+    slices {y} a k = owned-pushes slice encoded is-slice a (encodeOf y (take (e .to .0 - e .from .0) (drop (e .from .0) text))) (λ t s v i. rw i) k
 
 -- ---- captures
 

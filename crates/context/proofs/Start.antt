@@ -1,17 +1,14 @@
 -- The state before the first event stands for the machine's: the relation can be met. Assumes nothing.
-use mathlib.Core.Path.{_≡_, refl}
-use mathlib.Core.Bool.{true, false}
+use mathlib.Core.Path.{refl}
+use mathlib.Core.Bool.{false}
 use mathlib.Core.List.{List, []}
 use Prim.Native.Nat.{ℕ}
 use native.Mathlib.Omega.{arith}
-use lib.ListN.{length}
 use Rattle.machine.specs.declared.Ending.{Ending}
 use Rattle.machine.specs.State.{start}
+use Rattle.word.specs.Word.{digitOf}
 use Rattle.buffers.specs.Stand.{Holds}
 use Rattle.context.specs.declared.Number.the-variants as N
-use Rattle.context.specs.declared.Answer.the-variants as A
-use Rattle.context.specs.declared.Fences.the-variants as F
-use Rattle.context.specs.declared.Mark.the-variants as M
 use Rattle.context.specs.declared.Context.{Context}
 use Rattle.context.specs.Rel.{Begun}
 
@@ -22,21 +19,21 @@ abbrev before : Ending → Context
 before ending =
     record {
       buffers = record { page = 0; end = 0; start = 0; depth = 0 };
-      flags = record { slurp = false; encode = true; raw = false; alt = false; head = false };
-      waiting = record { rank = N.Unset; seen = A.Unset; fences = F.Outside; marker = M.Unset; first = A.Unset };
+      word = 4;
+      rank = N.Unset;
       tight = record { bits = 0; count = 0 };
       table = record { inside = false; extra = 0; column = 0 };
       ending = ending;
     }
 
 pub begins-so : (ending : Ending) → Begun ending (before ending)
-unfolding start
+unfolding start digitOf
 begins-so ending =
     record {
       begun = λ w o b. record {
         stand = record { page = holds-nothing o; flat-is = holds-nothing w; depth = refl; starts-are = λ h. tt };
         flags = refl;
-        waits = record { rank = refl; seen = refl; fences = tt; marker = refl; first = refl };
+        waits = record { rank = refl; seen = refl; fences = refl; marker = refl; first = refl };
         tight = record { count = refl; bits = refl; small = omega arith };
         table = record { aligns = refl; column = refl };
         ending = refl;

@@ -1,15 +1,27 @@
 -- What the inner functions make of the state: no part of a promise. Assumes nothing.
-use Rattle.context.specs.declared.Fences.{Fences}
+use mathlib.Core.Path.{_≡_}
+use mathlib.Core.Bool.{Bool}
+use Prim.Native.Nat.{ℕ}
+use Rattle.machine.specs.Set.{Flag}
+use Rattle.machine.specs.Test.{is}
+use Rattle.machine.specs.Command.{set}
+use Rattle.word.specs.Word.{Placed}
 use Rattle.context.specs.declared.Context.{Context}
+use Rattle.context.specs.Rel.{Any, Sets, Tells, placeOf}
 
--- with other fences
-abbrev pub fencedBy : Fences → Context → Context
-fencedBy x c =
-    record {
-      buffers = c .buffers;
-      flags = c .flags;
-      waiting = record { rank = c .waiting .rank; seen = c .waiting .seen; fences = x; marker = c .waiting .marker; first = c .waiting .first };
-      tight = c .tight;
-      table = c .table;
-      ending = c .ending;
-    }
+-- with another word
+abbrev pub withWord : ℕ → Context → Context
+withWord x c = record { buffers = c .buffers; word = x; rank = c .rank; tight = c .tight; table = c .table; ending = c .ending }
+
+-- the flag at a place is set, or asked for
+pub record SetsFlag (place : ℕ) (x : Bool) (c r : Context) : Type 0 where
+  pub sets-flag : (f : Flag) → placeOf f ≡ place → Sets (set f x) c r
+
+pub record TellsFlag (place : ℕ) (c : Context) (x : Bool) : Type 0 where
+  pub tells-flag : (f : Flag) → placeOf f ≡ place → Tells Any (is f) c x
+
+-- one digit of the word is another
+pub record Digit (place x : ℕ) (c r : Context) : Type 0 where
+  pub word : ℕ
+  pub placed : Placed place x (c .word) word
+  pub is : r ≡ withWord word c

@@ -1,15 +1,19 @@
 -- How the machine's state stands in the code's, and what a function does that keeps it so. Assumes nothing.
 use mathlib.Core.Path.{_≡_}
-use mathlib.Core.Bool.{Bool, true, false}
+use mathlib.Core.Bool.{Bool, true, false, not}
 use mathlib.Core.List.{List, [], _∷_}
 use mathlib.Core.Option.{Option, none, some}
-use Prim.Native.Nat.{ℕ, min, _≤_}
+use Prim.Native.Nat.{ℕ, zero, suc, min, _≤_}
+use lib.Dec.{eqb}
 use lib.ListN.{length}
 use Prim.Native.String.{String}
 use Rattle.lent.specs.Bytes.{if_then_else_, bytes}
 use Rattle.event.specs.declared.Event.{Event}
 use Rattle.event.specs.Event.{named, alignmentsOf}
 use Rattle.character_reference.specs.declared.Marker.{Marker}
+use Rattle.character_reference.specs.declared.Marker.the-variants.{Named, Hexadecimal, Decimal}
+use Rattle.machine.specs.declared.Flags.{Flags}
+use Rattle.machine.specs.Set.{Flag, slurp, encode, raw, alt, head, setRank, setMarker}
 use Rattle.machine.specs.State as State
 use Rattle.machine.specs.State.{State, start}
 use Rattle.machine.specs.declared.Ending.{Ending}
@@ -20,16 +24,14 @@ use Rattle.machine.specs.Test.{Test, test}
 use Rattle.machine.specs.Command.{Command, tag}
 use Rattle.bounded.specs.Within.{within}
 use Rattle.tight.specs.Tight.{Tightened}
+use Rattle.word.specs.Word.{digitOf}
 use Rattle.buffers.specs.Stand.{Stand}
 use Rattle.context.specs.declared.Number.{Number}
 use Rattle.context.specs.declared.Number.the-variants as N
 use Rattle.context.specs.declared.Answer.{Answer}
 use Rattle.context.specs.declared.Answer.the-variants as A
-use Rattle.context.specs.declared.Fences.{Fences}
-use Rattle.context.specs.declared.Fences.the-variants as F
 use Rattle.context.specs.declared.Mark.{Mark}
 use Rattle.context.specs.declared.Mark.the-variants as M
-use Rattle.context.specs.declared.Waiting.{Waiting}
 use Rattle.context.specs.declared.Table.{Table}
 use Rattle.context.specs.declared.Context.{Context}
 
@@ -48,24 +50,48 @@ abbrev pub markOf : Mark → Option Marker
 markOf M.Unset = none
 markOf (M.Is m) = some m
 
--- counted up to two: no handler asks for more
-abbrev pub Fenced : Fences → Option ℕ → Type 0
-Fenced F.Outside none = Unit
-Fenced F.Outside (some n) = ⊥
-Fenced F.Zero none = ⊥
-Fenced F.Zero (some n) = n ≡ 0
-Fenced F.One none = ⊥
-Fenced F.One (some n) = n ≡ 1
-Fenced F.More none = ⊥
-Fenced F.More (some n) = 2 ≤ n
+-- ---- the word: each flag and each answer that waits is a digit of it
 
--- a setext heading's text stands among the held bytes
-pub record Waits (w : Waiting) (a : State.Waiting) : Type 0 where
-  pub rank : numberOf (w .rank) ≡ a .rank
-  pub seen : answerOf (w .seen) ≡ a .seen
-  pub fences : Fenced (w .fences) (a .fences)
-  pub marker : markOf (w .marker) ≡ a .marker
-  pub first : answerOf (w .first) ≡ a .first
+abbrev pub placeOf : Flag → ℕ
+placeOf slurp = 0
+placeOf encode = 1
+placeOf raw = 2
+placeOf alt = 3
+placeOf head = 4
+
+abbrev pub isOn : (word : ℕ) → Flag → Bool
+isOn word f = not (eqb (digitOf (placeOf f) word) 0)
+
+abbrev pub flagsOf : (word : ℕ) → Flags
+flagsOf word = record { slurp = isOn word slurp; encode = isOn word encode; raw = isOn word raw; alt = isOn word alt; head = isOn word head }
+
+abbrev pub answerDigit : Option Bool → ℕ
+answerDigit none = 0
+answerDigit (some true) = 1
+answerDigit (some false) = 2
+
+-- counted up to two: no handler asks for more
+abbrev pub fencesDigit : Option ℕ → ℕ
+fencesDigit none = 0
+fencesDigit (some zero) = 1
+fencesDigit (some (suc zero)) = 2
+fencesDigit (some (suc (suc n))) = 3
+
+abbrev pub markDigit : Option Marker → ℕ
+markDigit none = 0
+markDigit (some Named) = 1
+markDigit (some Decimal) = 2
+markDigit (some Hexadecimal) = 3
+
+-- behind the flags, what waits; a setext heading's text stands among the held bytes
+pub record Waits (word : ℕ) (number : Number) (a : State.Waiting) : Type 0 where
+  pub rank : numberOf number ≡ a .rank
+  pub seen : digitOf 5 word ≡ answerDigit (a .seen)
+  pub fences : digitOf 6 word ≡ fencesDigit (a .fences)
+  pub marker : digitOf 7 word ≡ markDigit (a .marker)
+  pub first : digitOf 8 word ≡ answerDigit (a .first)
+
+-- ---- the table, and all together
 
 -- in a table: the alignments that its enter's extra field holds
 abbrev pub enterOf : (extra : ℕ) → Event
@@ -81,8 +107,8 @@ pub record Tabled (t : Table) (a : State.Table) : Type 0 where
 
 pub record Rel (c : Context) (captures out starts : List ℕ) (s : State) : Type 0 where
   pub stand : Stand (c .buffers) captures starts out s
-  pub flags : c .flags ≡ s .flags
-  pub waits : Waits (c .waiting) (s .waiting)
+  pub flags : flagsOf (c .word) ≡ s .flags
+  pub waits : Waits (c .word) (c .rank) (s .waiting)
   pub tight : Tightened (c .tight) (s .tight)
   pub table : Tabled (c .table) (s .table)
   pub ending : c .ending ≡ s .ending
@@ -152,3 +178,15 @@ pub record Begun (ending : Ending) (r : Context) : Type 0 where
 -- the answer to a question
 pub record Tells (View : Turn → Type 0) (q : Test) (c : Context) (x : Bool) : Type 0 where
   pub tells : (t : Turn) (captures out starts : List ℕ) (s : State) (y : Bool) → View t → Rel c captures out starts s → test q t s ≡ go y → y ≡ x
+
+-- another rank waits, or none
+pub record Ranks (x : Number) (c r : Context) : Type 0 where
+  pub ranks : (captures out starts : List ℕ) (s : State) → Rel c captures out starts s → Rel r captures out starts (setRank (numberOf x) s)
+
+-- the marker that waits
+pub record MarkIs (c : Context) (x : Mark) : Type 0 where
+  pub mark-is : (captures out starts : List ℕ) (s : State) → Rel c captures out starts s → markOf x ≡ s .waiting .marker
+
+-- none waits any more
+pub record ForgetsMarker (c r : Context) : Type 0 where
+  pub forgets : (captures out starts : List ℕ) (s : State) → Rel c captures out starts s → Rel r captures out starts (setMarker none s)

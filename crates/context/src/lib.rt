@@ -1,16 +1,16 @@
 // The state of a build by value, the machine's own in code: places, counts and flags. The bytes stand in lent buffers beside it.
 ghost use mathlib.Core.Path.{_≡_};
 ghost use mathlib.Core.Option.{none, some};
+ghost use Prim.Native.Nat.{_<_};
 ghost use Rattle.machine.specs.Set.{slurp, encode, raw, alt, head};
-ghost use Rattle.machine.specs.Test.{isTight, isInContainer, hasRank, hasSeenData, isFirstFence, isFencedOnce, isFenceMissing};
-ghost use Rattle.machine.specs.Command.{slice, buffer, drop, lineEnding, lineEndingIfNeeded, set, tighten, loosen, marker, forgetRank, fences, countFence, seenData};
-ghost use Rattle.context.specs.Rel.{Any, Sees, Keeps, Begins, Ends, Pushes, PushesTag, Begun, Sets, Tells, answerOf};
-ghost use Rattle.context.specs.Private.{fencedBy};
+ghost use Rattle.machine.specs.Test.{is, isTight, isInContainer, hasRank, hasSeenData, isFirstFence, isFencedOnce, isFenceMissing, isFirstMarker};
+ghost use Rattle.machine.specs.Command.{slice, buffer, drop, lineEnding, lineEndingIfNeeded, set, tighten, loosen, marker, forgetRank, fences, countFence, seenData, first};
+ghost use Rattle.context.specs.Rel.{Any, Sees, Keeps, Begins, Ends, Pushes, PushesTag, Begun, Sets, Tells, Ranks, MarkIs, ForgetsMarker, answerOf, answerDigit, markDigit};
+ghost use Rattle.context.specs.Private.{Digit, SetsFlag, TellsFlag};
 use buffers::Buffers;
 use character_reference::Marker;
 use event::Event;
 use machine::Ending;
-use machine::Flags;
 use tight::Tight;
 
 // A number that may not be known yet.
@@ -26,27 +26,10 @@ pub enum Answer {
     No,
 }
 
-// How many fences a code block has so far; outside of one it has none to count.
-pub enum Fences {
-    Outside,
-    Zero,
-    One,
-    More,
-}
-
 // The marker of a character reference, where one was seen.
 pub enum Mark {
     Unset,
     Is(Marker),
-}
-
-// What a later event of the same element asks for.
-pub struct Waiting {
-    pub rank: Number,
-    pub seen: Answer,
-    pub fences: Fences,
-    pub marker: Mark,
-    pub first: Answer,
 }
 
 // The table that is open: its enter's extra field, and the column of the next cell.
@@ -58,13 +41,38 @@ pub struct Table {
 
 pub struct Context {
     pub buffers: Buffers,
-    pub flags: Flags,
-    pub waiting: Waiting,
+    // the flags and the answers that wait: a digit each
+    pub word: u64,
+    // of an atx heading
+    pub rank: Number,
     // which containers are
     pub tight: Tight,
     pub table: Table,
     pub ending: Ending,
 }
+
+// ---- where each stands in the word
+
+const SLURP: usize = 0;
+
+const ENCODE: usize = 1;
+
+const RAW: usize = 2;
+
+const ALT: usize = 3;
+
+const HEAD: usize = 4;
+
+const SEEN: usize = 5;
+
+const FENCES: usize = 6;
+
+const MARKER: usize = 7;
+
+const FIRST: usize = 8;
+
+// HTML is encoded, and no other flag or answer is set.
+const AT_START: u64 = 4;
 
 // Before the first event.
 pub fn new(ending: Ending) -> Context
@@ -76,20 +84,6 @@ pub fn new(ending: Ending) -> Context
         start: 0,
         depth: 0,
     };
-    let flags = Flags {
-        slurp: false,
-        encode: true,
-        raw: false,
-        alt: false,
-        head: false,
-    };
-    let waiting = Waiting {
-        rank: Number::Unset,
-        seen: Answer::Unset,
-        fences: Fences::Outside,
-        marker: Mark::Unset,
-        first: Answer::Unset,
-    };
     let tight = Tight { bits: 0, count: 0 };
     let table = Table {
         inside: false,
@@ -98,8 +92,8 @@ pub fn new(ending: Ending) -> Context
     };
     Context {
         buffers,
-        flags,
-        waiting,
+        word: AT_START,
+        rank: Number::Unset,
         tight,
         table,
         ending,
@@ -139,7 +133,7 @@ pub fn line_ending_if_needed(c: Context, captures: &mut [u8], out: &mut [u8]) ->
 pub fn push_tag(c: Context, captures: &mut [u8], out: &mut [u8], s: &[u8]) -> Context
     ensures { λ r. ⌜ PushesTag (now (s .entry)) c (now (captures .entry)) (now (out .entry)) r (now (captures .exit)) (now (out .exit)) ⌝ }
 {
-    if c.flags.alt {
+    if is_alt(c) {
         return c;
     }
     push(c, captures, out, s)
@@ -158,7 +152,7 @@ pub fn push_slice(c: Context, text: &[u8], e: Event, captures: &mut [u8], out: &
         return c;
     }
     let mut r = c;
-    let encoding = c.flags.encode;
+    let encoding = encodes(c);
     r.buffers = buffers::push_encoded(c.buffers, captures, out, &text[from..to], encoding);
     r
 }
@@ -181,51 +175,99 @@ pub fn drop(c: Context, starts: &[usize]) -> Context
     r
 }
 
+// ---- the word
+
+fn with_digit(c: Context, k: usize, x: u64) -> Context
+    requires { ⌜ (k < 32) × (x < 4) ⌝ }
+    ensures { λ r. ⌜ Digit k x c r ⌝ }
+{
+    let mut r = c;
+    r.word = word::with_digit(c.word, k, x);
+    r
+}
+
+fn with_flag(c: Context, k: usize, x: bool) -> Context
+    requires { ⌜ k < 32 ⌝ }
+    ensures { λ r. ⌜ SetsFlag k x c r ⌝ }
+{
+    if x {
+        return with_digit(c, k, 1);
+    }
+    with_digit(c, k, 0)
+}
+
+fn has_flag(c: Context, k: usize) -> bool
+    requires { ⌜ k < 32 ⌝ }
+    ensures { λ r. ⌜ TellsFlag k c r ⌝ }
+{
+    word::digit(c.word, k) != 0
+}
+
 // ---- flags
 
 // Whether the next line ending is swallowed.
+pub fn is_slurping(c: Context) -> bool
+    ensures { λ r. ⌜ Tells Any (is slurp) c r ⌝ }
+{
+    has_flag(c, SLURP)
+}
+
 pub fn set_slurp(c: Context, x: bool) -> Context
     ensures { λ r. ⌜ Sets (set slurp x) c r ⌝ }
 {
-    let mut r = c;
-    r.flags.slurp = x;
-    r
+    with_flag(c, SLURP, x)
 }
 
 // Whether HTML is encoded.
+pub fn encodes(c: Context) -> bool
+    ensures { λ r. ⌜ Tells Any (is encode) c r ⌝ }
+{
+    has_flag(c, ENCODE)
+}
+
 pub fn set_encode(c: Context, x: bool) -> Context
     ensures { λ r. ⌜ Sets (set encode x) c r ⌝ }
 {
-    let mut r = c;
-    r.flags.encode = x;
-    r
+    with_flag(c, ENCODE, x)
 }
 
 // Whether this is code text.
+pub fn is_raw(c: Context) -> bool
+    ensures { λ r. ⌜ Tells Any (is raw) c r ⌝ }
+{
+    has_flag(c, RAW)
+}
+
 pub fn set_raw(c: Context, x: bool) -> Context
     ensures { λ r. ⌜ Sets (set raw x) c r ⌝ }
 {
-    let mut r = c;
-    r.flags.raw = x;
-    r
+    with_flag(c, RAW, x)
 }
 
 // Whether this is in the text of an image.
+pub fn is_alt(c: Context) -> bool
+    ensures { λ r. ⌜ Tells Any (is alt) c r ⌝ }
+{
+    has_flag(c, ALT)
+}
+
 pub fn set_alt(c: Context, x: bool) -> Context
     ensures { λ r. ⌜ Sets (set alt x) c r ⌝ }
 {
-    let mut r = c;
-    r.flags.alt = x;
-    r
+    with_flag(c, ALT, x)
 }
 
 // Whether this is in the head of a table.
+pub fn is_head(c: Context) -> bool
+    ensures { λ r. ⌜ Tells Any (is head) c r ⌝ }
+{
+    has_flag(c, HEAD)
+}
+
 pub fn set_head(c: Context, x: bool) -> Context
     ensures { λ r. ⌜ Sets (set head x) c r ⌝ }
 {
-    let mut r = c;
-    r.flags.head = x;
-    r
+    with_flag(c, HEAD, x)
 }
 
 // ---- containers
@@ -260,174 +302,169 @@ pub fn is_in_container(c: Context) -> bool
     c.tight.count != 0
 }
 
-// ---- what waits
+// ---- the rank of a heading
 
-pub fn set_seen(c: Context, x: Answer) -> Context
-    ensures { λ r. ⌜ Sets (seenData (answerOf x)) c r ⌝ }
+pub fn with_rank(c: Context, x: Number) -> Context
+    ensures { λ r. ⌜ Ranks x c r ⌝ }
 {
-    let mut r = c;
-    let w = c.waiting;
-    let rank = w.rank;
-    let fences = w.fences;
-    let marker = w.marker;
-    let first = w.first;
-    let waiting = Waiting {
-        rank,
-        seen: x,
-        fences,
-        marker,
-        first,
-    };
-    r.waiting = waiting;
-    r
-}
-
-fn with_fences(c: Context, x: Fences) -> Context
-    ensures { λ r. ⌜ r ≡ fencedBy x c ⌝ }
-{
-    let mut r = c;
-    let w = c.waiting;
-    let rank = w.rank;
-    let seen = w.seen;
-    let marker = w.marker;
-    let first = w.first;
-    let waiting = Waiting {
-        rank,
-        seen,
-        fences: x,
-        marker,
-        first,
-    };
-    r.waiting = waiting;
-    r
-}
-
-// A fenced block begins.
-pub fn open_fences(c: Context) -> Context
-    ensures { λ r. ⌜ Sets (fences (some 0)) c r ⌝ }
-{
-    with_fences(c, Fences::Zero)
-}
-
-// It ends.
-pub fn end_fences(c: Context) -> Context
-    ensures { λ r. ⌜ Sets (fences none) c r ⌝ }
-{
-    with_fences(c, Fences::Outside)
-}
-
-pub fn set_marker(c: Context, x: Marker) -> Context
-    ensures { λ r. ⌜ Sets (marker x) c r ⌝ }
-{
-    let mut r = c;
-    let w = c.waiting;
-    let rank = w.rank;
-    let seen = w.seen;
-    let fences = w.fences;
-    let first = w.first;
-    let waiting = Waiting {
-        rank,
-        seen,
-        fences,
-        marker: Mark::Is(x),
-        first,
-    };
-    r.waiting = waiting;
-    r
+    let buffers = c.buffers;
+    let word = c.word;
+    let tight = c.tight;
+    let table = c.table;
+    let ending = c.ending;
+    Context {
+        buffers,
+        word,
+        rank: x,
+        tight,
+        table,
+        ending,
+    }
 }
 
 pub fn forget_rank(c: Context) -> Context
     ensures { λ r. ⌜ Sets forgetRank c r ⌝ }
 {
-    let mut r = c;
-    let w = c.waiting;
-    let seen = w.seen;
-    let fences = w.fences;
-    let marker = w.marker;
-    let first = w.first;
-    let waiting = Waiting {
-        rank: Number::Unset,
-        seen,
-        fences,
-        marker,
-        first,
-    };
-    r.waiting = waiting;
-    r
+    with_rank(c, Number::Unset)
 }
 
 pub fn has_rank(c: Context) -> bool
     ensures { λ r. ⌜ Tells Any hasRank c r ⌝ }
 {
-    let w = c.waiting;
-    let x = w.rank;
+    let x = c.rank;
     match x {
         Number::Unset => false,
         Number::Is(_) => true,
     }
 }
 
+// ---- answers: a digit is 0 for none, 1 for yes, 2 for no
+
+fn answer_digit(x: Answer) -> u64
+    ensures { λ r. ⌜ r ≡ answerDigit (answerOf x) ⌝ }
+{
+    match x {
+        Answer::Unset => 0,
+        Answer::Yes => 1,
+        Answer::No => 2,
+    }
+}
+
+pub fn set_seen(c: Context, x: Answer) -> Context
+    ensures { λ r. ⌜ Sets (seenData (answerOf x)) c r ⌝ }
+{
+    let d = answer_digit(x);
+    with_digit(c, SEEN, d)
+}
+
 pub fn has_seen_data(c: Context) -> bool
     ensures { λ r. ⌜ Tells Any hasSeenData c r ⌝ }
 {
-    let w = c.waiting;
-    let x = w.seen;
+    word::digit(c.word, SEEN) == 1
+}
+
+// Whether the next item is its list's first.
+pub fn set_first(c: Context, x: bool) -> Context
+    ensures { λ r. ⌜ Sets (first x) c r ⌝ }
+{
+    if x {
+        return with_digit(c, FIRST, 1);
+    }
+    with_digit(c, FIRST, 2)
+}
+
+pub fn is_first_marker(c: Context) -> bool
+    ensures { λ r. ⌜ Tells Any isFirstMarker c r ⌝ }
+{
+    word::digit(c.word, FIRST) == 1
+}
+
+// ---- the marker of a character reference
+
+fn marker_digit(x: Marker) -> u64
+    ensures { λ r. ⌜ r ≡ markDigit (some x) ⌝ }
+{
     match x {
-        Answer::Unset => false,
-        Answer::Yes => true,
-        Answer::No => false,
+        Marker::Named => 1,
+        Marker::Decimal => 2,
+        Marker::Hexadecimal => 3,
     }
 }
 
-pub fn is_first_fence(c: Context) -> bool
-    ensures { λ r. ⌜ Tells Any isFirstFence c r ⌝ }
+pub fn set_marker(c: Context, x: Marker) -> Context
+    ensures { λ r. ⌜ Sets (marker x) c r ⌝ }
 {
-    let w = c.waiting;
-    let x = w.fences;
-    match x {
-        Fences::Outside => false,
-        Fences::Zero => true,
-        Fences::One => false,
-        Fences::More => false,
-    }
+    let d = marker_digit(x);
+    with_digit(c, MARKER, d)
 }
 
-pub fn is_fenced_once(c: Context) -> bool
-    ensures { λ r. ⌜ Tells Any isFencedOnce c r ⌝ }
+pub fn forget_marker(c: Context) -> Context
+    ensures { λ r. ⌜ ForgetsMarker c r ⌝ }
 {
-    let w = c.waiting;
-    let x = w.fences;
-    match x {
-        Fences::Outside => false,
-        Fences::Zero => false,
-        Fences::One => true,
-        Fences::More => false,
-    }
+    with_digit(c, MARKER, 0)
 }
 
-pub fn is_fence_missing(c: Context) -> bool
-    ensures { λ r. ⌜ Tells Any isFenceMissing c r ⌝ }
+pub fn waiting_marker(c: Context) -> Mark
+    ensures { λ r. ⌜ MarkIs c r ⌝ }
 {
-    let w = c.waiting;
-    let x = w.fences;
-    match x {
-        Fences::Outside => false,
-        Fences::Zero => true,
-        Fences::One => true,
-        Fences::More => false,
+    let d = word::digit(c.word, MARKER);
+    if d == 0 {
+        return Mark::Unset;
     }
+    if d == 1 {
+        return Mark::Is(Marker::Named);
+    }
+    if d == 2 {
+        return Mark::Is(Marker::Decimal);
+    }
+    Mark::Is(Marker::Hexadecimal)
+}
+
+// ---- fences: 0 outside of a fenced block, then one more than it has so far
+
+// A fenced block begins.
+pub fn open_fences(c: Context) -> Context
+    ensures { λ r. ⌜ Sets (fences (some 0)) c r ⌝ }
+{
+    with_digit(c, FENCES, 1)
+}
+
+// It ends.
+pub fn end_fences(c: Context) -> Context
+    ensures { λ r. ⌜ Sets (fences none) c r ⌝ }
+{
+    with_digit(c, FENCES, 0)
 }
 
 // One fence more.
 pub fn count_fence(c: Context) -> Context
     ensures { λ r. ⌜ Sets countFence c r ⌝ }
 {
-    let w = c.waiting;
-    let x = w.fences;
-    match x {
-        Fences::Outside => c,
-        Fences::Zero => with_fences(c, Fences::One),
-        Fences::One => with_fences(c, Fences::More),
-        Fences::More => c,
+    let d = word::digit(c.word, FENCES);
+    if d == 1 {
+        return with_digit(c, FENCES, 2);
     }
+    if d == 2 {
+        return with_digit(c, FENCES, 3);
+    }
+    c
+}
+
+pub fn is_first_fence(c: Context) -> bool
+    ensures { λ r. ⌜ Tells Any isFirstFence c r ⌝ }
+{
+    word::digit(c.word, FENCES) == 1
+}
+
+pub fn is_fenced_once(c: Context) -> bool
+    ensures { λ r. ⌜ Tells Any isFencedOnce c r ⌝ }
+{
+    word::digit(c.word, FENCES) == 2
+}
+
+pub fn is_fence_missing(c: Context) -> bool
+    ensures { λ r. ⌜ Tells Any isFenceMissing c r ⌝ }
+{
+    let d = word::digit(c.word, FENCES);
+    (d == 1) | (d == 2)
 }

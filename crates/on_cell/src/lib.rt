@@ -10,7 +10,7 @@ use context::Context;
 fn push_cell_name(c: Context, captures: &mut [u8], out: &mut [u8]) -> Context
     ensures { λ r. ⌜ Keeps Any cellName c (now (captures .entry)) (now (out .entry)) r (now (captures .exit)) (now (out .exit)) ⌝ }
 {
-    if c.flags.head {
+    if context::is_head(c) {
         return context::push(c, captures, out, b"<th");
     }
     context::push(c, captures, out, b"<td")
@@ -28,7 +28,7 @@ fn open_cell(c: Context, captures: &mut [u8], out: &mut [u8]) -> Context
 fn close_cell(c: Context, captures: &mut [u8], out: &mut [u8]) -> Context
     ensures { λ r. ⌜ Keeps Any closingCell c (now (captures .entry)) (now (out .entry)) r (now (captures .exit)) (now (out .exit)) ⌝ }
 {
-    if c.flags.head {
+    if context::is_head(c) {
         return context::push(c, captures, out, b"</th>");
     }
     context::push(c, captures, out, b"</td>")

@@ -8,15 +8,18 @@ use lib.ListN.{length}
 use Rattle.lent.specs.Bytes.{if_then_else_}
 use Rattle.machine.specs.State as State
 use Rattle.machine.specs.State.{State}
-use Rattle.machine.specs.Set.{setCalls}
+use Rattle.machine.specs.Set.{alt, setCalls}
 use Rattle.machine.specs.Buffers.{push}
 use Rattle.machine.specs.Footnote.{addressOf, callIndex, countAt, timesAt, callText, callNote}
+use Rattle.machine.specs.Test as Test
 use Rattle.machine.specs.Command.{call, exec}
 use Rattle.bounded.specs.Within.{fitting, within}
 use Rattle.bounded.proofs.Bounds.{done, fits}
 use Rattle.regions.specs.Regions.{regionAt}
 use Rattle.buffers.specs.declared.Buffers.{Buffers}
+use Rattle.context.specs.Rel.{Any, Tells}
 use Rattle.context.proofs.Laws.{withBuffers}
+use Rattle.context.proofs.Commands.{flag-told}
 use Rattle.links.specs.declared.Links.{Links}
 use Rattle.links.specs.declared.Span.{Span}
 use Rattle.links.specs.declared.Label.the-variants as L
@@ -101,16 +104,16 @@ module _ {p : Span} {b : Whole} {text calls calls′ : List ℕ} {index : ℕ} {
       }
 
   -- in an image's text
-  pub calls-unwritten : {work out : List ℕ} → b .context .flags .alt ≡ true → CallsLabel p b text work out calls (withKept k (withLinks l b)) work out calls′
+  pub calls-unwritten : {work out : List ℕ} {o : Bool} → Tells Any (Test.is alt) (b .context) o → o ≡ true → CallsLabel p b text work out calls (withKept k (withLinks l b)) work out calls′
   unfolding within exec
-  calls-unwritten alt = record {
+  calls-unwritten asked image = record {
     calls-label = λ e. record {
       on-calls = λ w i j h. record {
         handles = λ t s u v a y q.
             let d = done true (callNote t s) u q in
             let c = known t s u e (v .text-is) a y (d .went) in
             let r = counting w s u h a (d .fits) y c in
-            let x : s .flags .alt ≡ true = ap (λ f. f .alt) (sym (y .context .flags)) ∙ alt in
+            let x : s .flags .alt ≡ true = flag-told asked t (y .context) ∙ image in
             let z : counted (c .label) (c .others) s ≡ u = ap (λ (o : Bool). if o then counted (c .label) (c .others) s else push (textOf (c .label) (s .kept .calls)) (counted (c .label) (c .others) s)) (sym x) ∙ c .then-is in
             same-lent w i j (rw (← z) (r .built));
       };
@@ -118,18 +121,18 @@ module _ {p : Span} {b : Whole} {text calls calls′ : List ℕ} {index : ℕ} {
   }
 
   -- elsewhere
-  pub calls-written : {times : ℕ} {x : Buffers} {work out work′ out′ : List ℕ} → b .context .flags .alt ≡ false → TellsTimes calls′ index times
+  pub calls-written : {times : ℕ} {x : Buffers} {work out work′ out′ : List ℕ} {o : Bool} → Tells Any (Test.is alt) (b .context) o → o ≡ false → TellsTimes calls′ index times
       → WritesCall (b .context .buffers) text (p .from .0) (p .to .0) index times work out x work′ out′ → length work′ ≡ length work
       → CallsLabel p b text work out calls (withContext (withBuffers x (b .context)) (withKept k (withLinks l b))) work′ out′ calls′
   unfolding within exec
-  calls-written {times} {x} {work} {out} {work′} {out′} alt tells writes n = record {
+  calls-written asked image tells writes n = record {
     calls-label = λ e. record {
       on-calls = λ w i j h. record {
         handles = λ t s u v a y q.
             let d = done true (callNote t s) u q in
             let c = known t s u e (v .text-is) a y (d .went) in
             let r = counting w s u h a (d .fits) y c in
-            let f : s .flags .alt ≡ false = ap (λ f. f .alt) (sym (y .context .flags)) ∙ alt in
+            let f : s .flags .alt ≡ false = flag-told asked t (y .context) ∙ image in
             let z : push (textOf (c .label) (s .kept .calls)) (counted (c .label) (c .others) s) ≡ u = ap (λ (o : Bool). if o then counted (c .label) (c .others) s else push (textOf (c .label) (s .kept .calls)) (counted (c .label) (c .others) s)) (sym f) ∙ c .then-is in
             rw (← z) (writing s r tells (rw (← i, ← j) at writes) (c .label-there) (n ∙ ap length (sym i)));
       };

@@ -56,7 +56,7 @@ fn call_label(
     let mut r = b;
     r.kept = kept::count_call(b.kept, index, text, from, to, calls);
     r.links = links::close_media(b.links);
-    if b.context.flags.alt {
+    if context::is_alt(b.context) {
         return r;
     }
     let times = kept::times_at(calls, index);

@@ -1,6 +1,6 @@
 -- A line of code between its virtual spaces. Assumes nothing.
 use mathlib.Core.Path.{_≡_, refl}
-use mathlib.Core.Bool.{true}
+use mathlib.Core.Bool.{Bool, true}
 use mathlib.Core.List.{List, _++_}
 use Prim.Native.Nat.{ℕ, _-_, _<_}
 use lib.ListN.{length, take, drop, replicate}
@@ -8,14 +8,16 @@ use Rattle.encode.specs.Encode.{encodeOf}
 use Rattle.event.specs.declared.Event.{Event}
 use Rattle.machine.specs.State.{State}
 use Rattle.machine.specs.Outcome.{go, _>>=_}
+use Rattle.machine.specs.Set.{encode}
 use Rattle.machine.specs.Buffers.{push, pushEncoded}
 use Rattle.machine.specs.Turn.{Turn, ownStr}
+use Rattle.machine.specs.Test.{is}
 use Rattle.machine.specs.Command.{chunk, exec}
 use Rattle.bounded.specs.Within.{one, within}
 use Rattle.buffers.specs.declared.Buffers.{Buffers}
 use Rattle.buffers.specs.Stand as Stand
 use Rattle.context.specs.declared.Context.{Context}
-use Rattle.context.specs.Rel.{Sees, Keeps}
+use Rattle.context.specs.Rel.{Any, Sees, Keeps, Tells}
 use Rattle.context.proofs.Laws.{withBuffers}
 use Rattle.context.proofs.Slices.{owned-back, owned-out, owned-pushes}
 
@@ -36,6 +38,6 @@ module _ (text : List ℕ) (e : Event) {c : Context} {w o : List ℕ} where
   pub chunk-out : length text < e .to .0 → Keeps (Sees text e) chunk c w o c w o
   chunk-out h = owned-out text e chunk encoded is-chunk h
 
-  pub chunks : {x : Buffers} {w′ o′ : List ℕ} → Stand.Keeps (push (encodeOf (c .flags .encode) (spaced e (take (e .to .0 - e .from .0) (drop (e .from .0) text))))) (c .buffers) w o x w′ o′
+  pub chunks : {y : Bool} {x : Buffers} {w′ o′ : List ℕ} → Tells Any (is encode) c y → Stand.Keeps (push (encodeOf y (spaced e (take (e .to .0 - e .from .0) (drop (e .from .0) text))))) (c .buffers) w o x w′ o′
       → Keeps (Sees text e) chunk c w o (withBuffers x c) w′ o′
-  chunks k = owned-pushes text e chunk encoded is-chunk (encodeOf (c .flags .encode) (spaced e (take (e .to .0 - e .from .0) (drop (e .from .0) text)))) (λ t s v i. rw (i, ← v .event-is)) k
+  chunks {y} a k = owned-pushes text e chunk encoded is-chunk a (encodeOf y (spaced e (take (e .to .0 - e .from .0) (drop (e .from .0) text)))) (λ t s v i. rw (i, ← v .event-is)) k

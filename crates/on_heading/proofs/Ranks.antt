@@ -1,6 +1,6 @@
 -- The rank of a heading: kept, and written. Assumes nothing.
-use mathlib.Core.Path.{_≡_, refl, sym, ap, _∙_}
-use mathlib.Core.Bool.{Bool, true, false, _&&_}
+use mathlib.Core.Path.{_≡_, sym, ap, _∙_}
+use mathlib.Core.Bool.{true, _&&_}
 use mathlib.Core.List.{List}
 use mathlib.Core.Option.{Option, none, some}
 use Prim.Native.Nat.{ℕ, _-_, _≤_, _<_}
@@ -12,7 +12,7 @@ use Rattle.lent.specs.Bytes.{if_then_else_}
 use Rattle.lent.proofs.Laws.{and-left, and-right}
 use Rattle.event.specs.declared.Event.{Event}
 use Rattle.machine.specs.State.{State}
-use Rattle.machine.specs.Outcome.{stop, go, _>>=_, need}
+use Rattle.machine.specs.Outcome.{go, _>>=_, need}
 use Rattle.machine.specs.Set.{setRank}
 use Rattle.machine.specs.Buffers.{push}
 use Rattle.machine.specs.Text.{decimal}
@@ -24,36 +24,13 @@ use Rattle.buffers.specs.declared.Buffers.{Buffers}
 use Rattle.buffers.specs.Stand as Stand
 use Rattle.context.specs.declared.Number.the-variants as N
 use Rattle.context.specs.declared.Context.{Context}
-use Rattle.context.specs.Rel.{Rel, Any, Sees, Keeps, SetsFor}
+use Rattle.context.specs.Rel.{Any, Sees, Keeps, SetsFor, Ranks}
 use Rattle.context.proofs.Laws.{withBuffers, rel-buffers, pushed}
-use Rattle.context.proofs.Plain.{never, stands}
+use Rattle.context.proofs.Plain.{never}
 use Rattle.context.proofs.Commands.{first-goes}
 use Rattle.context.proofs.Slices.{passed}
 
 -- ---- kept
-
-abbrev rankedBy : ℕ → Context → Context
-rankedBy n c =
-    record {
-      buffers = c .buffers;
-      flags = c .flags;
-      waiting = record { rank = N.Is n; seen = c .waiting .seen; fences = c .waiting .fences; marker = c .waiting .marker; first = c .waiting .first };
-      tight = c .tight;
-      table = c .table;
-      ending = c .ending;
-    }
-
-rel-rank : {c : Context} {w o b : List ℕ} {s : State} (n : ℕ) → Rel c w o b s → Rel (rankedBy n c) w o b (setRank (some n) s)
-rel-rank n r =
-    let v = r .waits in
-    record {
-      stand = stands (r .stand) refl refl;
-      flags = r .flags;
-      waits = record { rank = refl; seen = v .seen; fences = v .fences; marker = v .marker; first = v .first };
-      tight = r .tight;
-      table = r .table;
-      ending = r .ending;
-    }
 
 module _ (text : List ℕ) (e : Event) where
   -- the slice is of the text
@@ -91,8 +68,8 @@ module _ (text : List ℕ) (e : Event) where
     pub rank-out : length text < e .to .0 → SetsFor (Sees text e) keepRank c c
     rank-out h = record { sets = λ w o. record { keeps = λ t b s u v x p. (let k = kept t s u v p .1 .inside in absurd (omega arith)) } }
 
-    pub keeps-rank : SetsFor (Sees text e) keepRank c (rankedBy (e .to .0 - e .from .0) c)
-    keeps-rank = record { sets = λ w o. record { keeps = λ t b s u v x p. (let k = kept t s u v p in rw (← k .2, ← k .1 .long) (rel-rank (e .to .0 - e .from .0) x)) } }
+    pub keeps-rank : {r : Context} → Ranks (N.Is (e .to .0 - e .from .0)) c r → SetsFor (Sees text e) keepRank c r
+    keeps-rank q = record { sets = λ w o. record { keeps = λ t b s u v x p. (let k = kept t s u v p in rw (← k .2, ← k .1 .long) (q .ranks w o b s x)) } }
 
 -- ---- written
 
@@ -106,13 +83,13 @@ stays (some m) s u h p = let z : _≡_ {A = ℕ} 0 1 = cc in absurd (omega arith
 
 module _ {c : Context} {w o : List ℕ} where
   -- with no rank the machine stops
-  pub no-rank : c .waiting .rank ≡ N.Unset → Keeps Any rank c w o c w o
+  pub no-rank : c .rank ≡ N.Unset → Keeps Any rank c w o c w o
   unfolding exec within
   no-rank q = record {
     keeps = λ t b s u v x p. stays (s .waiting .rank) s u (rw q at (x .waits .rank)) (done true (need (s .waiting .rank) >>= λ n. go (push (decimal n) s)) u p .went);
   }
 
-  pub writes-rank : (n : ℕ) → c .waiting .rank ≡ N.Is n → {x : Buffers} {w′ o′ : List ℕ} → Stand.Keeps (push (decimal n)) (c .buffers) w o x w′ o′ → Keeps Any rank c w o (withBuffers x c) w′ o′
+  pub writes-rank : (n : ℕ) → c .rank ≡ N.Is n → {x : Buffers} {w′ o′ : List ℕ} → Stand.Keeps (push (decimal n)) (c .buffers) w o x w′ o′ → Keeps Any rank c w o (withBuffers x c) w′ o′
   unfolding exec within
   writes-rank n q k = record {
     keeps = λ t b s u v x p.

@@ -5,7 +5,6 @@ ghost use Rattle.context.specs.Rel.{Any, Sees, Keeps, SetsFor};
 use context::Answer;
 use context::Context;
 use context::Number;
-use context::Waiting;
 use event::Event;
 
 // ---- headings
@@ -22,29 +21,14 @@ fn keep_rank(c: Context, text: &[u8], e: Event) -> Context
     if text.len() < to {
         return c;
     }
-    let mut r = c;
-    let w = c.waiting;
-    let seen = w.seen;
-    let fences = w.fences;
-    let marker = w.marker;
-    let first = w.first;
-    let waiting = Waiting {
-        rank: Number::Is(to - from),
-        seen,
-        fences,
-        marker,
-        first,
-    };
-    r.waiting = waiting;
-    r
+    context::with_rank(c, Number::Is(to - from))
 }
 
 // The rank that waits, in decimal.
 fn push_rank(c: Context, captures: &mut [u8], out: &mut [u8]) -> Context
     ensures { λ r. ⌜ Keeps Any rank c (now (captures .entry)) (now (out .entry)) r (now (captures .exit)) (now (out .exit)) ⌝ }
 {
-    let w = c.waiting;
-    let x = w.rank;
+    let x = c.rank;
     let Number::Is(n) = x else {
         return c;
     };
@@ -97,7 +81,7 @@ fn push_chunk(c: Context, text: &[u8], e: Event, captures: &mut [u8], out: &mut 
         return c;
     }
     let mut r = c;
-    let encoding = c.flags.encode;
+    let encoding = context::encodes(c);
     let before = e.before;
     let after = e.after;
     r.buffers = pieces::push_padded(

@@ -1,6 +1,6 @@
 -- What a character reference stands for, by the marker that waits. Assumes nothing.
-use mathlib.Core.Path.{_≡_, refl}
-use mathlib.Core.Bool.{true}
+use mathlib.Core.Path.{_≡_}
+use mathlib.Core.Bool.{Bool, true}
 use mathlib.Core.List.{List}
 use mathlib.Core.Option.{Option, none, some}
 use Prim.Native.Nat.{ℕ, _<_}
@@ -12,21 +12,22 @@ use Rattle.character_reference.specs.Reference.{referenceOf}
 use Rattle.event.specs.declared.Event.{Event}
 use Rattle.machine.specs.State.{State}
 use Rattle.machine.specs.Outcome.{go, _>>=_, need}
-use Rattle.machine.specs.Set.{setMarker}
+use Rattle.machine.specs.Set.{encode, setMarker}
 use Rattle.machine.specs.Buffers.{push, pushEncoded}
 use Rattle.machine.specs.Turn.{Turn, ownStr}
+use Rattle.machine.specs.Test.{is}
 use Rattle.machine.specs.Command.{reference, exec}
 use Rattle.bounded.specs.Within.{within}
 use Rattle.bounded.proofs.Bounds.{done}
 use Rattle.buffers.specs.declared.Buffers.{Buffers}
 use Rattle.pieces.specs.Pieces.{PushesReference}
+use Rattle.context.specs.declared.Mark.{Mark}
 use Rattle.context.specs.declared.Mark.the-variants as M
 use Rattle.context.specs.declared.Context.{Context}
-use Rattle.context.specs.Rel.{Rel, Sees, Keeps}
+use Rattle.context.specs.Rel.{Any, Sees, Keeps, Tells, MarkIs, ForgetsMarker}
 use Rattle.context.proofs.Laws.{withBuffers, rel-buffers, pushed}
-use Rattle.context.proofs.Plain.{never, stands}
-use Rattle.context.proofs.Commands.{first-goes}
-use Rattle.on_inline.specs.Private.{unmarked}
+use Rattle.context.proofs.Plain.{never}
+use Rattle.context.proofs.Commands.{first-goes, flag-told}
 use Rattle.context.proofs.Slices.{Sliced}
 use Rattle.on_inline.proofs.Own.{sliceIn, own}
 
@@ -34,18 +35,6 @@ use Rattle.on_inline.proofs.Own.{sliceIn, own}
 needed : {A : Type 0} (x : Option A) (a : A) → need x ≡ go a → x ≡ some a
 needed none a p = never p
 needed (some b) a p = cc
-
-rel-unmarked : {c : Context} {w o b : List ℕ} {s : State} → Rel c w o b s → Rel (unmarked c) w o b (setMarker none s)
-rel-unmarked r =
-    let v = r .waits in
-    record {
-      stand = stands (r .stand) refl refl;
-      flags = r .flags;
-      waits = record { rank = v .rank; seen = v .seen; fences = v .fences; marker = refl; first = v .first };
-      tight = r .tight;
-      table = r .table;
-      ending = r .ending;
-    }
 
 -- a marker waits, there is a slice, and the two stand for a text, which is appended
 record Referred (text : List ℕ) (e : Event) (s u : State) : Type 0 where
@@ -82,24 +71,24 @@ module _ (text : List ℕ) (e : Event) where
     pub reference-out : length text < e .to .0 → Keeps (Sees text e) reference c w o c w o
     reference-out h = record { keeps = λ t b s u v x p. (let k = went t s u v p .slice .inside in absurd (omega arith)) }
 
-    pub no-marker : c .waiting .marker ≡ M.Unset → Keeps (Sees text e) reference c w o c w o
-    no-marker q = record {
+    pub no-marker : {m : Mark} → MarkIs c m → m ≡ M.Unset → Keeps (Sees text e) reference c w o c w o
+    no-marker a q = record {
       keeps = λ t b s u v x p.
           let k = went t s u v p .waits in
-          let h : none ≡ s .waiting .marker = rw q at (x .waits .marker) in
+          let h : none ≡ s .waiting .marker = rw q at (a .mark-is w o b s x) in
           let z : _≡_ {A = ℕ} 0 1 = cc in absurd (omega arith);
     }
 
-    pub refers : {r : Context} {x : Buffers} {w′ o′ : List ℕ} (m : Marker) → c .waiting .marker ≡ M.Is m → r ≡ unmarked c → PushesReference m (sliceIn text e) (c .flags .encode) (c .buffers) w o x w′ o′
+    pub refers : {n : Mark} {r : Context} {y : Bool} {x : Buffers} {w′ o′ : List ℕ} (m : Marker) → MarkIs c n → n ≡ M.Is m → ForgetsMarker c r → Tells Any (is encode) c y → PushesReference m (sliceIn text e) y (r .buffers) w o x w′ o′
         → Keeps (Sees text e) reference c w o (withBuffers x r) w′ o′
-    refers {x = x} m q d k = rw d (record {
-      keeps = λ t b s u v y p.
+    refers {y = y} m a q f d k = record {
+      keeps = λ t b s u v x p.
           let g = went t s u v p in
-          let h : some m ≡ s .waiting .marker = rw q at (y .waits .marker) in
+          let h : some m ≡ s .waiting .marker = rw q at (a .mark-is w o b s x) in
           let i : m ≡ g .mark = (let j = g .waits in cc) in
           let n : referenceOf m (sliceIn text e) ≡ some (g .meaning) = rw (i, ← g .slice .bytes) (g .stands-for) in
-          let l = encodeOf (c .flags .encode) (g .meaning) in
-          let z : push l (setMarker none s) ≡ u = rw (y .flags) (g .is) in
-          let a = rel-unmarked y in
+          let l = encodeOf y (g .meaning) in
+          let z : push l (setMarker none s) ≡ u = rw (← flag-told d t x) (g .is) in
+          let a = f .forgets w o b s x in
           rw (← z) (rel-buffers a (pushed l (setMarker none s)) (k .pushes (g .meaning) n .keeps b (setMarker none s) (a .stand)));
-    })
+    }

@@ -1,39 +1,16 @@
 // Handlers of character references, code text and autolinks, by their Rust names.
-ghost use mathlib.Core.Path.{_≡_};
 ghost use Rattle.machine.specs.Set.{alt};
 ghost use Rattle.machine.specs.Test.{is};
 ghost use Rattle.machine.specs.Command.{_▸_, unless, put, slice, tag, url, resumeCode};
 ghost use Rattle.machine.specs.OnText.{onExitCharacterReferenceValue, onExitRawText, onExitAutolinkEmail, onExitAutolinkProtocol};
 ghost use Rattle.context.specs.Rel.{Any, Sees, Keeps, Takes};
 ghost use Rattle.on_inline.specs.View.{SeesWith};
-ghost use Rattle.on_inline.specs.Private.{unmarked};
 use context::Context;
 use context::Mark;
-use context::Waiting;
 use event::Event;
 use machine::Options;
 
 // ---- character references
-
-fn forget_marker(c: Context) -> Context
-    ensures { λ r. ⌜ r ≡ unmarked c ⌝ }
-{
-    let mut r = c;
-    let w = c.waiting;
-    let rank = w.rank;
-    let seen = w.seen;
-    let fences = w.fences;
-    let first = w.first;
-    let waiting = Waiting {
-        rank,
-        seen,
-        fences,
-        marker: Mark::Unset,
-        first,
-    };
-    r.waiting = waiting;
-    r
-}
 
 // By the marker that waits, which is taken.
 pub fn on_exit_character_reference_value(
@@ -53,14 +30,13 @@ pub fn on_exit_character_reference_value(
     if text.len() < to {
         return c;
     }
-    let w = c.waiting;
-    let x = w.marker;
+    let x = context::waiting_marker(c);
     let Mark::Is(m) = x else {
         return c;
     };
-    let mut r = forget_marker(c);
-    let encoding = c.flags.encode;
-    r.buffers = pieces::push_reference(c.buffers, captures, out, m, &text[from..to], encoding);
+    let mut r = context::forget_marker(c);
+    let encoding = context::encodes(c);
+    r.buffers = pieces::push_reference(r.buffers, captures, out, m, &text[from..to], encoding);
     r
 }
 
@@ -143,7 +119,7 @@ fn begin_protocol(
 ) -> Context
     ensures { λ r. ⌜ Keeps (SeesWith (now (text .entry)) e options) (unless (is alt) (put "<a href=\"" ▸ url "" ▸ put "\">")) c (now (captures .entry)) (now (out .entry)) r (now (captures .exit)) (now (out .exit)) ⌝ }
 {
-    if c.flags.alt {
+    if context::is_alt(c) {
         return c;
     }
     let begun = context::push(c, captures, out, b"<a href=\"");
@@ -154,7 +130,7 @@ fn begin_protocol(
 fn begin_email(c: Context, text: &[u8], e: Event, captures: &mut [u8], out: &mut [u8]) -> Context
     ensures { λ r. ⌜ Keeps (Sees (now (text .entry)) e) (unless (is alt) (put "<a href=\"" ▸ url "mailto:" ▸ put "\">")) c (now (captures .entry)) (now (out .entry)) r (now (captures .exit)) (now (out .exit)) ⌝ }
 {
-    if c.flags.alt {
+    if context::is_alt(c) {
         return c;
     }
     let begun = context::push(c, captures, out, b"<a href=\"");

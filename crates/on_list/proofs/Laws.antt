@@ -1,4 +1,4 @@
--- The first item's answer, and the questions that the handlers of lists ask. Assumes nothing.
+-- The questions that the handlers of lists ask. Assumes nothing.
 use mathlib.Core.Path.{_≡_, refl, sym, ap, ap₂, _∙_}
 use mathlib.Core.Bool.{Bool, true, false, not, _&&_, or-false}
 use mathlib.Core.List.{List, [], _∷_}
@@ -10,63 +10,15 @@ use Rattle.lent.specs.Bytes.{bytes}
 use Rattle.event.specs.declared.Event.{Event}
 use Rattle.event.specs.Event as Event
 use Rattle.event.specs.Event.{named}
-use Rattle.machine.specs.Outcome.{stop, go, _>>=_, need}
-use Rattle.machine.specs.Set.{setFirst}
+use Rattle.machine.specs.Outcome.{go, _>>=_, need}
 use Rattle.machine.specs.Turn.{Turn, lookBack}
-use Rattle.machine.specs.Test.{isOrdered, isLoose, isFirstMarker, isTight, isTightParagraph, isEmptyItem, tightOf, test}
-use Rattle.machine.specs.Command.{whether, put, tighten, first, exec}
-use Rattle.bounded.specs.Within.{within}
-use Rattle.context.specs.declared.Answer.{Answer}
-use Rattle.context.specs.declared.Answer.the-variants as A
+use Rattle.machine.specs.Test.{isOrdered, isLoose, isTight, isTightParagraph, isEmptyItem, tightOf, test}
+use Rattle.machine.specs.Command.{whether, put, tighten}
 use Rattle.context.specs.declared.Context.{Context}
-use Rattle.context.specs.Rel.{Any, Keeps, Sets, Pushes, Tells, answerOf}
-use Rattle.context.proofs.Plain.{never, stands, setting}
+use Rattle.context.specs.Rel.{Any, Keeps, Sets, Pushes, Tells}
+use Rattle.context.proofs.Plain.{never}
 use Rattle.context.proofs.Commands.{first-goes, sets, puts, whether-yes, whether-no}
-use Rattle.on_list.specs.Lists.{IsOrdered, OpensList, LooksBack, SetsFirst, PushesByOrder}
-
--- ---- the first item
-
-abbrev withFirst : Answer → Context → Context
-withFirst x c =
-    record {
-      buffers = c .buffers;
-      flags = c .flags;
-      waiting = record { rank = c .waiting .rank; seen = c .waiting .seen; fences = c .waiting .fences; marker = c .waiting .marker; first = x };
-      tight = c .tight;
-      table = c .table;
-      ending = c .ending;
-    }
-
-pub sets-first : {c : Context} (x : Answer) → SetsFirst x c (withFirst x c)
-unfolding exec within
-sets-first x = record {
-  sets-first = λ y p.
-      setting (setFirst (some y)) (λ t s. refl)
-      (λ w o b s i r.
-      let v = r .waits in
-      record {
-        stand = stands (r .stand) refl refl;
-        flags = r .flags;
-        waits = record { rank = v .rank; seen = v .seen; fences = v .fences; marker = v .marker; first = p };
-        tight = r .tight;
-        table = r .table;
-        ending = r .ending;
-      });
-}
-
-abbrev isYes : Answer → Bool
-isYes A.Unset = false
-isYes A.Yes = true
-isYes A.No = false
-
-first-of : (x : Answer) (f : Option Bool) (y : Bool) → answerOf x ≡ f → need f ≡ go y → y ≡ isYes x
-first-of A.Unset f y h p = let z : stop ≡ go y = rw (← h) at p in never z
-first-of A.Yes f y h p = let z : go true ≡ go y = rw (← h) at p in let e : true ≡ y = cc in sym e
-first-of A.No f y h p = let z : go false ≡ go y = rw (← h) at p in let e : false ≡ y = cc in sym e
-
-pub tells-first : {c : Context} (x : Answer) → c .waiting .first ≡ x → Tells Any isFirstMarker c (isYes x)
-unfolding test
-tells-first x q = record { tells = λ t w o b s y v r p. first-of x (s .waiting .first) y (rw q at (r .waits .first)) p }
+use Rattle.on_list.specs.Lists.{IsOrdered, OpensList, LooksBack, PushesByOrder}
 
 -- ---- the list's event
 

@@ -10,10 +10,9 @@ use Rattle.event.specs.declared.Event.{Event}
 use Rattle.event.specs.Event.{named, isLoose}
 use Rattle.machine.specs.Turn.{Turn, lookBack}
 use Rattle.machine.specs.Test.{isOrdered}
-use Rattle.machine.specs.Command.{whether, put, first}
-use Rattle.context.specs.declared.Answer.{Answer}
+use Rattle.machine.specs.Command.{whether, put}
 use Rattle.context.specs.declared.Context.{Context}
-use Rattle.context.specs.Rel.{Keeps, Sets, answerOf}
+use Rattle.context.specs.Rel.{Keeps}
 
 -- a turn of an ordered list or of another
 pub record IsOrdered (x : Bool) (t : Turn) : Type 0 where
@@ -27,10 +26,6 @@ pub record OpensList (x loose : Bool) (t : Turn) : Type 0 where
 -- one whose look back finds an event of this name, where it finds one
 pub record LooksBack (name : ℕ) (t : Turn) : Type 0 where
   pub behind-is : (e : Event) → lookBack 0 (t .before) ≡ some e → e .name ≡ name
-
--- whether the next item is the list's first
-pub record SetsFirst (x : Answer) (c r : Context) : Type 0 where
-  pub sets-first : (y : Bool) → answerOf x ≡ some y → Sets (first y) c r
 
 -- one text is appended for an ordered list, another for any other
 pub record PushesByOrder (x : Bool) (yes no : List ℕ) (c : Context) (captures out : List ℕ) (r : Context) (captures′ out′ : List ℕ) : Type 0 where

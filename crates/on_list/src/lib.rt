@@ -3,46 +3,9 @@ ghost use Rattle.machine.specs.Test.{isFirstMarker, isTightParagraph, isEmptyIt
 ghost use Rattle.machine.specs.Command.{when, unless, put, start, lineEndingIfNeeded};
 ghost use Rattle.machine.specs.OnList.{onEnterList, onExitList, onEnterListItemMarker, onExitListItemValue, onExitListItem};
 ghost use Rattle.context.specs.Rel.{Any, Sees, Keeps, Tells};
-ghost use Rattle.on_list.specs.Lists.{IsOrdered, OpensList, LooksBack, SetsFirst, PushesByOrder};
-use context::Answer;
+ghost use Rattle.on_list.specs.Lists.{IsOrdered, OpensList, LooksBack, PushesByOrder};
 use context::Context;
-use context::Waiting;
 use event::Event;
-
-// ---- the first item
-
-// Whether the next item is the list's first.
-fn set_first(c: Context, x: Answer) -> Context
-    ensures { λ r. ⌜ SetsFirst x c r ⌝ }
-{
-    let mut r = c;
-    let w = c.waiting;
-    let rank = w.rank;
-    let seen = w.seen;
-    let fences = w.fences;
-    let marker = w.marker;
-    let waiting = Waiting {
-        rank,
-        seen,
-        fences,
-        marker,
-        first: x,
-    };
-    r.waiting = waiting;
-    r
-}
-
-fn is_first_marker(c: Context) -> bool
-    ensures { λ r. ⌜ Tells Any isFirstMarker c r ⌝ }
-{
-    let w = c.waiting;
-    let x = w.first;
-    match x {
-        Answer::Unset => false,
-        Answer::Yes => true,
-        Answer::No => false,
-    }
-}
 
 // ---- lists
 
@@ -76,7 +39,7 @@ pub fn on_enter_list(
     let tight = context::tighten(c, !loose);
     let line = context::line_ending_if_needed(tight, captures, out);
     let r = push_by_order(line, ordered, captures, out, b"<ol", b"<ul");
-    set_first(r, Answer::Yes)
+    context::set_first(r, true)
 }
 
 pub fn on_exit_list(c: Context, ordered: bool, captures: &mut [u8], out: &mut [u8]) -> Context
@@ -92,7 +55,7 @@ pub fn on_exit_list(c: Context, ordered: bool, captures: &mut [u8], out: &mut [u
 fn end_tag(c: Context, captures: &mut [u8], out: &mut [u8]) -> Context
     ensures { λ r. ⌜ Keeps Any (when isFirstMarker (put ">")) c (now (captures .entry)) (now (out .entry)) r (now (captures .exit)) (now (out .exit)) ⌝ }
 {
-    if is_first_marker(c) {
+    if context::is_first_marker(c) {
         return context::push(c, captures, out, b">");
     }
     c
@@ -104,7 +67,7 @@ pub fn on_enter_list_item_marker(c: Context, captures: &mut [u8], out: &mut [u8]
     let list = end_tag(c, captures, out);
     let line = context::line_ending_if_needed(list, captures, out);
     let r = context::push(line, captures, out, b"<li>");
-    set_first(r, Answer::No)
+    context::set_first(r, false)
 }
 
 // The list's start, by the event's slice.
@@ -133,7 +96,7 @@ pub fn on_exit_list_item_value(
 ) -> Context
     ensures { λ r. ⌜ Keeps (Sees (now (text .entry)) e) onExitListItemValue c (now (captures .entry)) (now (out .entry)) r (now (captures .exit)) (now (out .exit)) ⌝ }
 {
-    if is_first_marker(c) {
+    if context::is_first_marker(c) {
         return push_start(c, text, e, captures, out);
     }
     c

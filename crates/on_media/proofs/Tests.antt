@@ -16,9 +16,9 @@ use Rattle.bounded.specs.Within.{one, within}
 use Rattle.bounded.proofs.Bounds.{done}
 use Rattle.regions.specs.Regions.{regionAt}
 use Rattle.context.specs.declared.Context.{Context}
-use Rattle.context.specs.Rel.{Any, Sets}
+use Rattle.context.specs.Rel.{Any, Sets, Tells}
 use Rattle.context.proofs.Plain.{never}
-use Rattle.context.proofs.Commands.{first-goes, tells-alt}
+use Rattle.context.proofs.Commands.{first-goes}
 use Rattle.links.specs.Links.{IsImage, AnyOlderImage}
 use Rattle.whole.specs.declared.Whole.{Whole}
 use Rattle.whole.specs.Whole.{World, Built, Always, Handles, Unlent, OnPage, withContext, withOut, withWork}
@@ -29,8 +29,8 @@ use Rattle.media_parts.specs.Parts.{OnShown}
 pub record Answers (q : Test) (b : Whole) (x : Bool) : Type 0 where
   pub answers : (text : List ℕ) (w : World) (t : Turn) (s : State) (y : Bool) → Built text b w s → test q t s ≡ go y → y ≡ x
 
-pub alt-known : {b : Whole} → Answers (is alt) b (b .context .flags .alt)
-alt-known = record { answers = λ text w t s y k p. tells-alt {View = Any} .tells t (take 16384 (w .work)) (w .out) (w .starts) s y (record {}) (k .context) p }
+pub alt-known : {b : Whole} {x : Bool} → Tells Any (is alt) (b .context) x → Answers (is alt) b x
+alt-known a = record { answers = λ text w t s y k p. a .tells t (take 16384 (w .work)) (w .out) (w .starts) s y (record {}) (k .context) p }
 
 image-there : (ms : List State.Media) (y : Bool) → (splitMedia ms >>= λ (m, rs). go (m .image)) ≡ go y → (m : State.Media) × (rs : List State.Media) × (ms ≡ m ∷ rs) × (m .image ≡ y)
 image-there [] y p = never p

@@ -54,7 +54,7 @@ fn put_slash(b: Whole, work: &mut [u8], out: &mut [u8]) -> Whole
 fn put_end_tag(b: Whole, work: &mut [u8], out: &mut [u8]) -> Whole
     ensures { λ r. ⌜ OnPage Always Any (tag "</a>") b (now (work .entry)) (now (out .entry)) r (now (work .exit)) (now (out .exit)) ⌝ }
 {
-    if b.context.flags.alt {
+    if context::is_alt(b.context) {
         return b;
     }
     media_parts::write_text(b, work, out, b"</a>")
@@ -71,7 +71,7 @@ fn push_start(
 ) -> Whole
     ensures { λ r. ⌜ OnShown Known (Chooses options) (unless (is alt) (whether isImage (put "<img src=\"") (put "<a href=\"") ▸ show destination ▸ when isImage (put "\" alt=\""))) b (now (work .entry)) (now (out .entry)) (now (definitions .entry)) r (now (work .exit)) (now (out .exit)) ⌝ }
 {
-    if b.context.flags.alt {
+    if context::is_alt(b.context) {
         return b;
     }
     let named = put_name(b, work, out);
@@ -91,7 +91,7 @@ fn push_label(b: Whole, work: &mut [u8], out: &mut [u8]) -> Whole
 fn push_end(b: Whole, work: &mut [u8], out: &mut [u8], definitions: &[usize]) -> Whole
     ensures { λ r. ⌜ OnShown Known Any (unless (is alt) (put "\"" ▸ show title ▸ when isImage (put " /") ▸ put ">")) b (now (work .entry)) (now (out .entry)) (now (definitions .entry)) r (now (work .exit)) (now (out .exit)) ⌝ }
 {
-    if b.context.flags.alt {
+    if context::is_alt(b.context) {
         return b;
     }
     let quoted = media_parts::write_text(b, work, out, b"\"");

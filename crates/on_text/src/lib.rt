@@ -117,10 +117,10 @@ pub fn on_exit_line_ending(
 ) -> Context
     ensures { λ r. ⌜ Keeps (SeesEnding (now (text .entry)) e behind) onExitLineEnding c (now (captures .entry)) (now (out .entry)) r (now (captures .exit)) (now (out .exit)) ⌝ }
 {
-    if c.flags.raw {
+    if context::is_raw(c) {
         return context::push(c, captures, out, b" ");
     }
-    if c.flags.slurp {
+    if context::is_slurping(c) {
         return context::set_slurp(c, false);
     }
     if behind {

@@ -23,7 +23,7 @@ use Rattle.table.specs.Table.{IsEvent}
 -- ---- the table alone
 
 abbrev withTable : Table → Context → Context
-withTable x c = record { buffers = c .buffers; flags = c .flags; waiting = c .waiting; tight = c .tight; table = x; ending = c .ending }
+withTable x c = record { buffers = c .buffers; word = c .word; rank = c .rank; tight = c .tight; table = x; ending = c .ending }
 
 abbrev columned : ℕ → Context → Context
 columned n c = withTable (record { inside = c .table .inside; extra = c .table .extra; column = n }) c

@@ -38,7 +38,7 @@ rel-alike a r =
     record {
       stand = stands (r .stand) (a .page) (a .captures);
       flags = r .flags ∙ sym (a .flags);
-      waits = record { rank = v .rank ∙ sym (a .rank); seen = v .seen ∙ sym (a .seen); fences = rw (a .fences) (v .fences); marker = v .marker ∙ sym (a .marker); first = v .first ∙ sym (a .first) };
+      waits = record { rank = v .rank ∙ sym (a .rank); seen = rw (a .seen) (v .seen); fences = rw (a .fences) (v .fences); marker = rw (a .marker) (v .marker); first = rw (a .first) (v .first) };
       tight = rw (a .tight) (r .tight);
       table = rw (a .table) (r .table);
       ending = r .ending ∙ sym (a .ending);

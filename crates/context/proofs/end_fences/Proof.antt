@@ -2,13 +2,15 @@
 use borrow.Author.Needs.{needs}
 use Rattle.context.proofs.end_fences.Statement.{statement}
 use Rattle.context.proofs.end_fences.Tie as tie
-use Rattle.context.proofs.Awaited.{ends-fences}
+use mathlib.Core.Path.{refl}
+use mathlib.Core.Option.{none}
+use Rattle.context.proofs.Fences.{fenced}
 
-with-fences-requires : tie.Need-with-fences-requires
-with-fences-requires c κs = search needs
+with-digit-requires : tie.Need-with-digit-requires
+with-digit-requires c κs = search needs
 
 returns : tie.Need-returns
-returns c = search ends-fences
+returns c = fenced none refl (c .with-digit .ensures)
 
 pub end-fences-spec : {M : Type 1} → statement M
-end-fences-spec = tie.close (tie.spec with-fences-requires returns)
+end-fences-spec = tie.close (tie.spec with-digit-requires returns)

@@ -1,35 +1,14 @@
--- By the variant.
+-- By the digit.
 use borrow.Author.Needs.{needs}
 use Rattle.context.proofs.is_fence_missing.Statement.{statement}
 use Rattle.context.proofs.is_fence_missing.Tie as tie
-use Rattle.context.specs.declared.Fences.the-variants.{Outside, Zero, One, More}
-use Rattle.context.proofs.Awaited.{tells-missing}
+use Rattle.context.proofs.Fences.{tells-missing}
 
-enum-told : tie.Need-enum-told
-enum-told c = search needs
-
-enum-told-2 : tie.Need-enum-told-2
-enum-told-2 c = search needs
-
-enum-told-3 : tie.Need-enum-told-3
-enum-told-3 c = search needs
-
-enum-told-4 : tie.Need-enum-told-4
-enum-told-4 c = search needs
+digit-requires : tie.Need-digit-requires
+digit-requires c κs = search needs
 
 returns : tie.Need-returns
-returns c = tells-missing Outside (search needs)
-
-returns-2 : tie.Need-returns-2
-returns-2 c = tells-missing Zero (search needs)
-
-returns-3 : tie.Need-returns-3
-returns-3 c = tells-missing One (search needs)
-
-returns-4 : tie.Need-returns-4
-returns-4 c = tells-missing More (search needs)
+returns c = search tells-missing
 
 pub is-fence-missing-spec : {M : Type 1} → statement M
-is-fence-missing-spec =
-    tie.close
-    (tie.spec enum-told enum-told-2 enum-told-3 enum-told-4 returns returns-2 returns-3 returns-4)
+is-fence-missing-spec = tie.close (tie.spec digit-requires returns)

@@ -2,13 +2,15 @@
 use borrow.Author.Needs.{needs}
 use Rattle.context.proofs.open_fences.Statement.{statement}
 use Rattle.context.proofs.open_fences.Tie as tie
-use Rattle.context.proofs.Awaited.{opens-fences}
+use mathlib.Core.Path.{refl}
+use mathlib.Core.Option.{some}
+use Rattle.context.proofs.Fences.{fenced}
 
-with-fences-requires : tie.Need-with-fences-requires
-with-fences-requires c κs = search needs
+with-digit-requires : tie.Need-with-digit-requires
+with-digit-requires c κs = search needs
 
 returns : tie.Need-returns
-returns c = search opens-fences
+returns c = fenced (some 0) refl (c .with-digit .ensures)
 
 pub open-fences-spec : {M : Type 1} → statement M
-open-fences-spec = tie.close (tie.spec with-fences-requires returns)
+open-fences-spec = tie.close (tie.spec with-digit-requires returns)

@@ -10,6 +10,9 @@ returns c = search slice-back
 returns-2 : tie.Need-returns-2
 returns-2 c = search slice-out
 
+encodes-requires : tie.Need-encodes-requires
+encodes-requires c κs = search needs
+
 part-push-encoded-start : tie.Need-part-push-encoded-start
 part-push-encoded-start c = search needs
 
@@ -34,6 +37,7 @@ push-slice-spec =
     (tie.spec
     returns
     returns-2
+    encodes-requires
     part-push-encoded-start
     part-push-encoded-end
     push-encoded-requires

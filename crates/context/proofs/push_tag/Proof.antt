@@ -4,6 +4,9 @@ use Rattle.context.proofs.push_tag.Statement.{statement}
 use Rattle.context.proofs.push_tag.Tie as tie
 use Rattle.context.proofs.Commands.{untagged, tagged}
 
+is-alt-requires : tie.Need-is-alt-requires
+is-alt-requires c κs = search needs
+
 returns : tie.Need-returns
 returns c = search untagged
 
@@ -20,4 +23,4 @@ returns-2 : tie.Need-returns-2
 returns-2 c = search tagged
 
 pub push-tag-spec : {M : Type 1} → statement M
-push-tag-spec = tie.close (tie.spec returns push-requires same-length same-length-2 returns-2)
+push-tag-spec = tie.close (tie.spec is-alt-requires returns push-requires same-length same-length-2 returns-2)

@@ -1,11 +1,15 @@
 -- One flag.
+use borrow.Author.Needs.{needs}
 use Rattle.context.proofs.set_alt.Statement.{statement}
 use Rattle.context.proofs.set_alt.Tie as tie
+use mathlib.Core.Path.{refl}
 use Rattle.machine.specs.Set.{alt}
-use Rattle.context.proofs.Plain.{flag}
+
+with-flag-requires : tie.Need-with-flag-requires
+with-flag-requires c κs = search needs
 
 returns : tie.Need-returns
-returns c = flag alt _
+returns c = c .with-flag .ensures .sets-flag alt refl
 
 pub set-alt-spec : {M : Type 1} → statement M
-set-alt-spec = tie.close (tie.spec returns)
+set-alt-spec = tie.close (tie.spec with-flag-requires returns)

@@ -1,10 +1,18 @@
--- One answer.
+-- One digit.
+use borrow.Author.Needs.{needs}
 use Rattle.context.proofs.set_seen.Statement.{statement}
 use Rattle.context.proofs.set_seen.Tie as tie
-use Rattle.context.proofs.Awaited.{sees}
+use Rattle.context.specs.Rel.{answerOf}
+use Rattle.context.proofs.Awaited.{answer-small, sees}
+
+answer-digit-requires : tie.Need-answer-digit-requires
+answer-digit-requires c κs = search needs
+
+with-digit-requires : tie.Need-with-digit-requires
+with-digit-requires c κs = (search needs, answer-small (answerOf (c .before .args .x)) (c .answer-digit .ensures))
 
 returns : tie.Need-returns
-returns c = search sees
+returns c = sees _ (c .before .answer-digit .ensures) (c .with-digit .ensures)
 
 pub set-seen-spec : {M : Type 1} → statement M
-set-seen-spec = tie.close (tie.spec returns)
+set-seen-spec = tie.close (tie.spec answer-digit-requires with-digit-requires returns)

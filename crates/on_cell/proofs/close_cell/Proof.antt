@@ -2,8 +2,10 @@
 use borrow.Author.Needs.{needs}
 use Rattle.on_cell.proofs.close_cell.Statement.{statement}
 use Rattle.on_cell.proofs.close_cell.Tie as tie
-use Rattle.machine.specs.Set.{head}
-use Rattle.context.proofs.Commands.{puts, whether-yes, whether-no, tells-flag}
+use Rattle.context.proofs.Commands.{puts, whether-yes, whether-no}
+
+is-head-requires : tie.Need-is-head-requires
+is-head-requires c κs = search needs
 
 slice-aggregate-push : tie.Need-slice-aggregate-push
 slice-aggregate-push c = search needs
@@ -19,8 +21,9 @@ same-length-2 c = search needs
 
 returns : tie.Need-returns
 returns c =
-    let c1 = c .before .before .before .before in
-    whether-yes (tells-flag head) (search needs) (puts (c1 .push .ensures))
+    let c2 = c .before .before .before .before in
+    let c1 = c2 .before .before .before .before .before in
+    whether-yes (c1 .is-head .ensures) (search needs) (puts (c2 .push .ensures))
 
 slice-aggregate-push-2 : tie.Need-slice-aggregate-push-2
 slice-aggregate-push-2 c = search needs
@@ -36,13 +39,15 @@ same-length-4 c = search needs
 
 returns-2 : tie.Need-returns-2
 returns-2 c =
-    let c1 = c .before .before .before .before in
-    whether-no (tells-flag head) (search needs) (puts (c1 .push2 .ensures))
+    let c2 = c .before .before .before .before in
+    let c1 = c2 .before .before .before .before .before in
+    whether-no (c1 .is-head .ensures) (search needs) (puts (c2 .push2 .ensures))
 
 pub close-cell-spec : {M : Type 1} → statement M
 close-cell-spec =
     tie.close
     (tie.spec
+    is-head-requires
     slice-aggregate-push
     push-requires
     same-length

@@ -1,4 +1,5 @@
 -- Where the slice is of the text; elsewhere the machine stops.
+use borrow.Author.Needs.{needs}
 use Rattle.on_heading.proofs.keep_rank.Statement.{statement}
 use Rattle.on_heading.proofs.keep_rank.Tie as tie
 use Rattle.on_heading.proofs.Ranks.{rank-back, rank-out, keeps-rank}
@@ -9,8 +10,11 @@ returns c = search rank-back
 returns-2 : tie.Need-returns-2
 returns-2 c = search rank-out
 
+with-rank-requires : tie.Need-with-rank-requires
+with-rank-requires c κs = search needs
+
 returns-3 : tie.Need-returns-3
 returns-3 c = search keeps-rank
 
 pub keep-rank-spec : {M : Type 1} → statement M
-keep-rank-spec = tie.close (tie.spec returns returns-2 returns-3)
+keep-rank-spec = tie.close (tie.spec returns returns-2 with-rank-requires returns-3)

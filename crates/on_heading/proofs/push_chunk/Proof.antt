@@ -10,6 +10,9 @@ returns c = search chunk-back
 returns-2 : tie.Need-returns-2
 returns-2 c = search chunk-out
 
+encodes-requires : tie.Need-encodes-requires
+encodes-requires c κs = search needs
+
 part-push-padded-start : tie.Need-part-push-padded-start
 part-push-padded-start c = search needs
 
@@ -34,6 +37,7 @@ push-chunk-spec =
     (tie.spec
     returns
     returns-2
+    encodes-requires
     part-push-padded-start
     part-push-padded-end
     push-padded-requires

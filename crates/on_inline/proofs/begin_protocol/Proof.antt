@@ -3,11 +3,13 @@ use borrow.Author.Needs.{needs}
 use Rattle.on_inline.proofs.begin_protocol.Statement.{statement}
 use Rattle.on_inline.proofs.begin_protocol.Tie as tie
 use native.Mathlib.Omega.{arith}
-use Rattle.machine.specs.Set.{alt}
-use Rattle.context.proofs.Commands.{idle, seq, puts, whether-yes, whether-no, tells-flag}
+use Rattle.context.proofs.Commands.{idle, seq, puts, told, whether-yes, whether-no}
+
+is-alt-requires : tie.Need-is-alt-requires
+is-alt-requires c κs = search needs
 
 returns : tie.Need-returns
-returns c = whether-yes (tells-flag alt) (search needs) idle
+returns c = whether-yes (told (c .before .is-alt .ensures)) (search needs) idle
 
 slice-aggregate-push : tie.Need-slice-aggregate-push
 slice-aggregate-push c = search needs
@@ -26,29 +28,31 @@ push-requires-2 c κs = search needs
 
 same-length : tie.Need-same-length
 same-length c =
-    let c3 = c .before .before .before .before in
-    let c2 = c3 .before .before .before .before .before .before .before .before in
-    let c1 = c2 .before .before .before .before .before .before .before in
-    omega (arith, (c1 .push .kept), (c2 .push-url .kept), (c3 .push2 .kept))
+    let c4 = c .before .before .before .before in
+    let c3 = c4 .before .before .before .before .before .before .before .before in
+    let c2 = c3 .before .before .before .before .before .before .before in
+    omega (arith, (c2 .push .kept), (c3 .push-url .kept), (c4 .push2 .kept))
 
 same-length-2 : tie.Need-same-length-2
 same-length-2 c =
-    let c3 = c .before .before .before .before in
-    let c2 = c3 .before .before .before .before .before .before .before .before in
-    let c1 = c2 .before .before .before .before .before .before .before in
-    omega (arith, (c1 .push .kept), (c2 .push-url .kept), (c3 .push2 .kept))
+    let c4 = c .before .before .before .before in
+    let c3 = c4 .before .before .before .before .before .before .before .before in
+    let c2 = c3 .before .before .before .before .before .before .before in
+    omega (arith, (c2 .push .kept), (c3 .push-url .kept), (c4 .push2 .kept))
 
 returns-2 : tie.Need-returns-2
 returns-2 c =
-    let c3 = c .before .before .before .before in
-    let c2 = c3 .before .before .before .before .before .before .before .before in
-    let c1 = c2 .before .before .before .before .before .before .before in
-    whether-no (tells-flag alt) (search needs) (seq (puts (c1 .push .ensures)) (seq (c2 .push-url .ensures) (puts (c3 .push2 .ensures))))
+    let c4 = c .before .before .before .before in
+    let c3 = c4 .before .before .before .before .before .before .before .before in
+    let c2 = c3 .before .before .before .before .before .before .before in
+    let c1 = c2 .before .before .before .before .before in
+    whether-no (told (c1 .is-alt .ensures)) (search needs) (seq (puts (c2 .push .ensures)) (seq (c3 .push-url .ensures) (puts (c4 .push2 .ensures))))
 
 pub begin-protocol-spec : {M : Type 1} → statement M
 begin-protocol-spec =
     tie.close
     (tie.spec
+    is-alt-requires
     returns
     slice-aggregate-push
     push-requires

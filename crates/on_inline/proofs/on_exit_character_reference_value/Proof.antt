@@ -13,6 +13,9 @@ returns-2 : tie.Need-returns-2
 unfolding onExitCharacterReferenceValue
 returns-2 c = search reference-out
 
+waiting-marker-requires : tie.Need-waiting-marker-requires
+waiting-marker-requires c κs = search needs
+
 enum-known-x : tie.Need-enum-known-x
 enum-known-x c = search needs
 
@@ -25,6 +28,9 @@ returns-3 c = search no-marker
 
 forget-marker-requires : tie.Need-forget-marker-requires
 forget-marker-requires c κs = search needs
+
+encodes-requires : tie.Need-encodes-requires
+encodes-requires c κs = search needs
 
 part-push-reference-start : tie.Need-part-push-reference-start
 part-push-reference-start c = search needs
@@ -51,10 +57,12 @@ on-exit-character-reference-value-spec =
     (tie.spec
     returns
     returns-2
+    waiting-marker-requires
     enum-known-x
     enum-told
     returns-3
     forget-marker-requires
+    encodes-requires
     part-push-reference-start
     part-push-reference-end
     push-reference-requires

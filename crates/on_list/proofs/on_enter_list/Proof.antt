@@ -3,8 +3,6 @@ use borrow.Author.Needs.{needs}
 use Rattle.on_list.proofs.on_enter_list.Statement.{statement}
 use Rattle.on_list.proofs.on_enter_list.Tie as tie
 use native.Mathlib.Omega.{arith}
-use mathlib.Core.Path.{refl}
-use mathlib.Core.Bool.{true}
 use Rattle.machine.specs.OnList.{onEnterList}
 use Rattle.context.proofs.Commands.{any, narrow, seq, sets}
 use Rattle.on_list.proofs.Laws.{tightens, by-order}
@@ -46,7 +44,7 @@ returns c =
     let c3 = c4 .before .before .before .before .before in
     let c2 = c3 .before .before .before .before .before .before .before .before .before in
     let c1 = c2 .before .before .before in
-    seq (tightens _ (c1 .tighten .ensures)) (seq (any (c2 .line-ending-if-needed .ensures)) (seq (narrow (λ t v. v .ordered) (by-order (c3 .push-by-order .ensures))) (sets (c4 .set-first .ensures .sets-first true refl))))
+    seq (tightens _ (c1 .tighten .ensures)) (seq (any (c2 .line-ending-if-needed .ensures)) (seq (narrow (λ t v. v .ordered) (by-order (c3 .push-by-order .ensures))) (sets (c4 .set-first .ensures))))
 
 pub on-enter-list-spec : {M : Type 1} → statement M
 on-enter-list-spec =

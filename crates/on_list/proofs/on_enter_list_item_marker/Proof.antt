@@ -3,8 +3,6 @@ use borrow.Author.Needs.{needs}
 use Rattle.on_list.proofs.on_enter_list_item_marker.Statement.{statement}
 use Rattle.on_list.proofs.on_enter_list_item_marker.Tie as tie
 use native.Mathlib.Omega.{arith}
-use mathlib.Core.Path.{refl}
-use mathlib.Core.Bool.{false}
 use Rattle.machine.specs.OnList.{onEnterListItemMarker}
 use Rattle.context.proofs.Commands.{seq, sets, puts}
 
@@ -46,7 +44,7 @@ returns c =
     let c3 = c4 .before .before .before .before .before in
     let c2 = c3 .before .before .before .before .before .before .before .before in
     let c1 = c2 .before .before .before .before .before .before .before in
-    seq (c1 .end-tag .ensures) (seq (c2 .line-ending-if-needed .ensures) (seq (puts (c3 .push .ensures)) (sets (c4 .set-first .ensures .sets-first false refl))))
+    seq (c1 .end-tag .ensures) (seq (c2 .line-ending-if-needed .ensures) (seq (puts (c3 .push .ensures)) (sets (c4 .set-first .ensures))))
 
 pub on-enter-list-item-marker-spec : {M : Type 1} → statement M
 on-enter-list-item-marker-spec =

@@ -14,8 +14,11 @@ use Rattle.machine.specs.Test.{isImage}
 use Rattle.machine.specs.Media.{title}
 use Rattle.machine.specs.Command.{when, put, show}
 
+is-alt-requires : tie.Need-is-alt-requires
+is-alt-requires c κs = search needs
+
 returns : tie.Need-returns
-returns c = shown-skipped alt-known (search needs)
+returns c = shown-skipped (alt-known (c .before .is-alt .ensures)) (search needs)
 
 slice-aggregate-write-text : tie.Need-slice-aggregate-write-text
 slice-aggregate-write-text c = search needs
@@ -57,7 +60,8 @@ returns-2 c =
     let c3 = c4 .before .before .before .before .before .before .before .before in
     let c2 = c3 .before .before .before .before .before .before .before in
     let c1 = c2 .before .before .before .before .before .before .before in
-    shown-no alt-known (c1 .before .before .before .before .if1 .left)
+    let c0 = c1 .before .before .before .before in
+    shown-no (alt-known (c0 .before .is-alt .ensures)) (c0 .if1 .left)
     (then-shown (quiet-steady (put "\"") refl) (page-shown {N = Always} {Wide = Any} (λ t v. v) (λ a. tt) (puts-page (c1 .write-text .ensures)))
     (then-shown (quiet-steady (show title) refl) (c2 .show-title .ensures)
     (then-shown (quiet-steady (when isImage (put " /")) refl) (page-shown (λ t v. v) (λ a. tt) (c3 .put-slash .ensures)) (page-shown {N = Always} {Wide = Any} (λ t v. v) (λ a. tt) (puts-page (c4 .write-text2 .ensures))))))
@@ -66,6 +70,7 @@ pub push-end-spec : {M : Type 1} → statement M
 push-end-spec =
     tie.close
     (tie.spec
+    is-alt-requires
     returns
     slice-aggregate-write-text
     write-text-requires

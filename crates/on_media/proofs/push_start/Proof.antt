@@ -11,8 +11,11 @@ use Rattle.machine.specs.Test.{isImage}
 use Rattle.machine.specs.Media.{destination}
 use Rattle.machine.specs.Command.{whether, put, show}
 
+is-alt-requires : tie.Need-is-alt-requires
+is-alt-requires c κs = search needs
+
 returns : tie.Need-returns
-returns c = shown-skipped alt-known (search needs)
+returns c = shown-skipped (alt-known (c .before .is-alt .ensures)) (search needs)
 
 put-name-requires : tie.Need-put-name-requires
 put-name-requires c κs = search needs
@@ -42,7 +45,7 @@ returns-2 c =
     let c3 = c .before .before .before .before in
     let c2 = c3 .before .before .before .before .before .before .before in
     let c1 = c2 .before .before .before .before .before .before .before in
-    shown-no alt-known (search needs)
+    shown-no (alt-known (c1 .before .before .before .before .is-alt .ensures)) (search needs)
     (then-shown (quiet-steady (whether isImage (put "<img src=\"") (put "<a href=\"")) refl) (page-shown (λ t v. record {}) (λ a. tt) (c1 .put-name .ensures))
     (then-shown (quiet-steady (show destination) refl) (c2 .show-destination .ensures) (page-shown (λ t v. record {}) (λ a. tt) (c3 .put-alt .ensures))))
 
@@ -50,6 +53,7 @@ pub push-start-spec : {M : Type 1} → statement M
 push-start-spec =
     tie.close
     (tie.spec
+    is-alt-requires
     returns
     put-name-requires
     show-destination-requires

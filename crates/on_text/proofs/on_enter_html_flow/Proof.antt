@@ -3,9 +3,8 @@ use borrow.Author.Needs.{needs}
 use Rattle.on_text.proofs.on_enter_html_flow.Statement.{statement}
 use Rattle.on_text.proofs.on_enter_html_flow.Tie as tie
 use Rattle.machine.specs.OnText.{onEnterHtmlFlow}
-use native.Mathlib.Omega.{arith}
 use Rattle.machine.specs.OnText.{onEnterHtmlText}
-use Rattle.context.proofs.Commands.{any, idle, sets, seq, puts, narrow, whether-yes, whether-no, tells-flag, tells-html, tells-last, tells-behind}
+use Rattle.context.proofs.Commands.{any, sets, seq}
 
 line-ending-if-needed-requires : tie.Need-line-ending-if-needed-requires
 line-ending-if-needed-requires c κs = search needs
