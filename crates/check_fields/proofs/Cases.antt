@@ -5,12 +5,13 @@ use mathlib.Core.List.{List}
 use mathlib.Core.Option.{none, some}
 use Prim.Native.Nat.{ℕ, _+_, _*_, _/_, _^_, _≤_, _<_}
 use native.Mathlib.Omega.{arith}
-use borrow.Author.Tests.{le-leb, lt-leb, eq-eqb, ne-eqb, eqb-true}
+use borrow.Author.Tests.{le-leb, lt-leb, eq-eqb, ne-eqb, eqb-true, eqb-false}
 use lib.Dec.{eqb, leb}
 use lib.ListN.{length}
 use Rattle.lent.specs.Bytes.{if_then_else_}
 use Rattle.lent.proofs.Laws.{and-left, and-right}
 use Rattle.utf8.specs.Utf8.{inside}
+use Rattle.utf8.proofs.Walk.{past-end}
 use Rattle.event.specs.declared.Event.{Event}
 use Rattle.event.specs.Event.{isEnter, columnsOf, eventsOf}
 use Rattle.check_fields.specs.declared.Fields.the-variants.{Yes, At}
@@ -58,9 +59,14 @@ module _ (e : Event) where
   unfolding extraHolds
   of-other h k = rw (h, ne-eqb (e .name) 57 k)
 
-  pub of-enter : {t : Bool} → t ≡ extraHolds e → (eqb (e .from .0) 0 && eqb (e .to .0) 0 && eqb (e .before) 0 && eqb (e .after) 0 && t) ≡ enterHolds e
+  -- with zeros, by the extra field
+  pub with-zeros : {t : Bool} → (eqb (e .from .0) 0 && eqb (e .to .0) 0 && eqb (e .before) 0 && eqb (e .after) 0) ≡ true → t ≡ extraHolds e → t ≡ enterHolds e
   unfolding enterHolds
-  of-enter p = rw p
+  with-zeros h p = rw h p
+
+  pub without-zeros : (eqb (e .from .0) 0 && eqb (e .to .0) 0 && eqb (e .before) 0 && eqb (e .after) 0) ≡ false → false ≡ enterHolds e
+  unfolding enterHolds
+  without-zeros h = rw h
 
   -- ---- an exit
 
@@ -90,14 +96,23 @@ module _ (e : Event) where
     unfolding sliceHolds
     past-text h k = rw (le-leb (e .from .0) (e .to .0) h, lt-leb (e .to .0) (length text) k)
 
-    module _ (h : e .from .0 ≤ e .to .0) (k : e .to .0 ≤ length text) {s : Bool} (p : s ≡ inside text (e .from .0)) where
+    module _ (h : e .from .0 ≤ e .to .0) (k : e .to .0 < length text) {s : Bool} (p : s ≡ inside text (e .from .0)) where
       pub from-inside : s ≡ true → false ≡ sliceHolds text e
       unfolding sliceHolds
-      from-inside l = rw (le-leb (e .from .0) (e .to .0) h, le-leb (e .to .0) (length text) k, ← p, l)
+      from-inside l = rw (le-leb (e .from .0) (e .to .0) h, le-leb (e .to .0) (length text) (omega arith), ← p, l)
 
       pub by-to : s ≡ false → {t : Bool} → t ≡ inside text (e .to .0) → not t ≡ sliceHolds text e
       unfolding sliceHolds
-      by-to l q = rw (le-leb (e .from .0) (e .to .0) h, le-leb (e .to .0) (length text) k, ← p, l, q)
+      by-to l q = rw (le-leb (e .from .0) (e .to .0) h, le-leb (e .to .0) (length text) (omega arith), ← p, l, q)
+
+    -- a slice that ends with the text
+    pub at-end : e .from .0 ≤ e .to .0 → e .to .0 ≤ length text → length text ≤ e .to .0 → {s : Bool} → s ≡ inside text (e .from .0) → not s ≡ sliceHolds text e
+    unfolding sliceHolds
+    at-end h k l {s} p = rw (le-leb (e .from .0) (e .to .0) h, le-leb (e .to .0) (length text) k, ← past-end text (e .to .0) l, ← p) (go s)
+      where
+        go : (t : Bool) → not t ≡ (not t && true)
+        go true = refl
+        go false = refl
 
     pub with-extra : (e .extra ≡ 0 → ⊥) → false ≡ exitHolds text e
     unfolding exitHolds
@@ -122,21 +137,29 @@ module _ (e : Event) where
     unfolding fieldsHold
     exited p h q = rw (sym p ∙ h, q)
 
-    pub unknown-kind : 1 < e .kind → false ≡ fieldsHold text e
+    pub unknown-name : 65 < e .name → false ≡ fieldsHold text e
     unfolding fieldsHold
-    unknown-kind h = rw (lt-leb (e .kind) 1 h)
+    unknown-name k = rw (lt-leb (e .name) 65 k) (go (leb (e .kind) 1) (if isEnter e then enterHolds e else exitHolds text e))
+      where
+        go : (t u : Bool) → false ≡ (t && false && u)
+        go true u = refl
+        go false u = refl
 
-    module _ (h : e .kind ≤ 1) where
-      pub unknown-name : 65 < e .name → false ≡ fieldsHold text e
+    module _ (k : e .name ≤ 65) {s : Bool} (p : s ≡ isEnter e) where
+      pub known-enter : {t : Bool} → s ≡ true → t ≡ enterHolds e → t ≡ fieldsHold text e
+      known-enter q r =
+          let h : e .kind ≡ 0 = eqb-true (e .kind) 0 (sym p ∙ q) in
+          rw (le-leb (e .kind) 1 (omega arith), le-leb (e .name) 65 k) at (entered p q r)
+
+      pub unknown-kind : s ≡ false → (e .kind ≡ 1 → ⊥) → false ≡ fieldsHold text e
       unfolding fieldsHold
-      unknown-name k = rw (le-leb (e .kind) 1 h, lt-leb (e .name) 65 k)
+      unknown-kind q h =
+          let n : e .kind ≡ 0 → ⊥ = eqb-false (e .kind) 0 (sym p ∙ q) in
+          let l : 1 < e .kind = omega arith in
+          rw (lt-leb (e .kind) 1 l)
 
-      module _ (k : e .name ≤ 65) {s t : Bool} (p : s ≡ isEnter e) where
-        pub known-enter : s ≡ true → t ≡ enterHolds e → t ≡ fieldsHold text e
-        known-enter q r = rw (le-leb (e .kind) 1 h, le-leb (e .name) 65 k) at (entered p q r)
-
-        pub known-exit : s ≡ false → t ≡ exitHolds text e → t ≡ fieldsHold text e
-        known-exit q r = rw (le-leb (e .kind) 1 h, le-leb (e .name) 65 k) at (exited p q r)
+      pub known-exit : {t : Bool} → e .kind ≡ 1 → s ≡ false → t ≡ exitHolds text e → t ≡ fieldsHold text e
+      known-exit h q r = rw (le-leb (e .kind) 1 (omega arith), le-leb (e .name) 65 k) at (exited p q r)
 
 -- ---- the pass
 

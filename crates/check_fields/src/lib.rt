@@ -1,8 +1,9 @@
-// The checker's pass for refusal 3: whether every event's fields meet their rules.
+// Refusal 3: whether an event's fields meet their rules. `check_events` walks over all events.
 ghost use mathlib.Core.Path.{_≡_};
-ghost use Rattle.check_fields.specs.Fields.{tableExtra, extraHolds, enterHolds, mostSpaces, spacesHold, sliceHolds, exitHolds, fieldsHold, fieldsOf};
+ghost use Prim.Native.Nat.{_≤_};
+ghost use lib.ListN.{length};
+ghost use Rattle.check_fields.specs.Fields.{tableExtra, extraHolds, enterHolds, mostSpaces, spacesHold, sliceHolds, exitHolds, fieldsHold};
 use event::Event;
-use event::EventIndex;
 
 // Every event passes, or the index of the first that breaks a rule.
 pub enum Fields {
@@ -48,7 +49,10 @@ fn extra_holds(e: Event) -> bool
 fn enter_holds(e: Event) -> bool
     ensures { λ r. ⌜ r ≡ enterHolds e ⌝ }
 {
-    (e.from.0 == 0) & (e.to.0 == 0) & (e.before == 0) & (e.after == 0) & extra_holds(e)
+    if (e.from.0 == 0) & (e.to.0 == 0) & (e.before == 0) & (e.after == 0) {
+        return extra_holds(e);
+    }
+    false
 }
 
 fn most_spaces(e: Event) -> u8
@@ -70,6 +74,19 @@ fn spaces_hold(e: Event) -> bool
     (e.before <= most) & (e.after <= most)
 }
 
+// A slice up to the text's end, or past it.
+fn end_holds(text: &[u8], e: Event) -> bool
+    requires { ⌜ (e .from .0 ≤ e .to .0) × (length (now text) ≤ e .to .0) ⌝ }
+    ensures { λ r. ⌜ r ≡ sliceHolds (now (text .entry)) e ⌝ }
+{
+    let from = e.from.0;
+    let to = e.to.0;
+    if text.len() < to {
+        return false;
+    }
+    !utf8::is_inside(text, from)
+}
+
 fn slice_holds(text: &[u8], e: Event) -> bool
     ensures { λ r. ⌜ r ≡ sliceHolds (now (text .entry)) e ⌝ }
 {
@@ -78,8 +95,8 @@ fn slice_holds(text: &[u8], e: Event) -> bool
     if to < from {
         return false;
     }
-    if text.len() < to {
-        return false;
+    if text.len() <= to {
+        return end_holds(text, e);
     }
     if utf8::is_inside(text, from) {
         return false;
@@ -99,32 +116,18 @@ fn exit_holds(text: &[u8], e: Event) -> bool
     false
 }
 
-fn fields_hold(text: &[u8], e: Event) -> bool
+// Whether an event's fields hold.
+pub fn fields_hold(text: &[u8], e: Event) -> bool
     ensures { λ r. ⌜ r ≡ fieldsHold (now (text .entry)) e ⌝ }
 {
-    if Event::EXIT < e.kind {
-        return false;
-    }
     if Event::GFM_FOOTNOTE_DEFINITION_LABEL_STRING < e.name {
         return false;
     }
     if e.is_enter() {
         return enter_holds(e);
     }
-    exit_holds(text, e)
-}
-
-// The pass: bytes behind the last whole record are none of an event.
-pub fn check_fields(text: &[u8], events: &[u8]) -> Fields
-    ensures { λ r. ⌜ r ≡ fieldsOf (now (text .entry)) (now (events .entry)) ⌝ }
-{
-    let count = event::count(events);
-    let mut i: usize = 0;
-    while i < count {
-        if !fields_hold(text, Event::read(events, EventIndex(i))) {
-            return Fields::At(i);
-        }
-        i += 1;
+    if e.kind != Event::EXIT {
+        return false;
     }
-    Fields::Yes
+    exit_holds(text, e)
 }

@@ -1,5 +1,5 @@
-pub mod Signatures
 pub mod Steps
+pub mod Signatures
 pub mod Next
 pub mod Uses
 pub mod Laws

@@ -6,7 +6,6 @@ use Prim.Native.Nat.{ℕ, _+_, _/_, _<_, _≤_}
 use native.Mathlib.Omega.{arith}
 use lib.Dec.{eqb}
 use lib.ListN.{length, drop}
-use borrow.Author.Count.{below-more}
 use borrow.Author.Tests.{eqb-true, eqb-false, not-true, not-false}
 use Rattle.lent.specs.Bytes.{same, listed}
 use Rattle.event.specs.declared.Event.{Event}
@@ -15,12 +14,11 @@ use Rattle.event.proofs.Laws.{events-next}
 use Rattle.normalize_identifier.specs.Identity.{identityOf}
 use Rattle.signature.specs.declared.Signature.{Signature}
 use Rattle.signature.specs.Signature.{signatureOf}
-use Rattle.check_labels.specs.declared.Part.the-variants.{Slice}
-use Rattle.check_labels.specs.Labels.{slice, labelOf, identities}
-use Rattle.check_labels.specs.Signature.{Right, SignedTo, Signed, Signs, Skips}
-use Rattle.check_labels.specs.Next.{IsLabel, IsPlain, Passed, Found, NextLabel}
-use Rattle.check_labels.proofs.Signatures.{put, signed-other, signed-put}
-use Rattle.check_labels.proofs.Steps.{label-enter, label-other, label-here, listed-found, listed-differs, listed-skipped}
+use Rattle.check_labels.specs.Labels.{slice, identities}
+use Rattle.check_labels.specs.Signature.{Signed, Reached, Signing, Signs, Puts, Skips}
+use Rattle.check_labels.specs.Next.{Labelled, IsLabel, IsPlain, Passed, Found, NextLabel}
+use Rattle.check_labels.proofs.Signatures.{reached-none, reached-more, label-there, label-below, signing-other, signing-put, skipped}
+use Rattle.check_labels.proofs.Steps.{label-enter, label-other, label-here, listed-found, listed-other, listed-end}
 
 -- ---- one event
 
@@ -57,14 +55,16 @@ module _ (b : List ℕ) (n : ℕ) {from i count : ℕ} (p : Passed b n from i) (
   pub label-last : count ≤ i → NextLabel b n from i
   label-last h = record { passed = p; next = record { found = λ l. absurd (omega arith) } }
 
--- ---- the slice of the one that is found
-
-slice-here : {b : List ℕ} {n i : ℕ} → Found b n i → i < length b / 20 → {v : Event} → v ≡ eventAt b i → labelOf n v ≡ Slice (v .from .0) (v .to .0)
-slice-here f h g = rw g (f .found h)
-
 -- ---- signatures
 
 module _ (b : List ℕ) (i : ℕ) {x : ℕ} (p : x ≡ eventAt b i .name) where
+  pub before-labels : x < 54 → IsPlain b i true
+  before-labels m =
+      record {
+        definition = λ t. label-other 54 (eventAt b i) (λ z. omega arith);
+        footnote = λ t. label-other 65 (eventAt b i) (λ z. omega arith);
+      }
+
   pub labelled : IsPlain b i false
   labelled = record { definition = λ t. absurd (true≢false (sym t)); footnote = λ t. absurd (true≢false (sym t)) }
 
@@ -75,46 +75,76 @@ module _ (b : List ℕ) (i : ℕ) {x : ℕ} (p : x ≡ eventAt b i .name) where
         footnote = λ t. label-other 65 (eventAt b i) (λ z. eqb-false x 65 (not-true (eqb x 65) t) (p ∙ z));
       }
 
-module _ (text b : List ℕ) (n i : ℕ) (signatures : List ℕ) where
-  pub signs-full : length signatures / 2 ≤ i → Signs text b n i signatures signatures
-  signs-full h = record { signs = λ s. record { right = below-more (Right text b n signatures) i (s .right) (λ from to l z. absurd (omega arith)) } }
+module _ (text b : List ℕ) (n i k : ℕ) (signatures : List ℕ) (h : i < length b / 20) {t : Bool} (u : IsLabel b n i t) where
+  pub signs-none : t ≡ false → Signs text b n i k signatures k signatures
+  signs-none e = record { signs = λ s. signing-other s h (u .no e) }
 
-  module _ {t : Bool} (u : IsLabel b n i t) where
-    pub signs-none : t ≡ false → Signs text b n i signatures signatures
-    signs-none e = record { signs = λ s. signed-other s (u .no e) }
+  pub signs-put : t ≡ true → {after : List ℕ} → Puts text (eventAt b i) k signatures after → Signs text b n i k signatures (k + 1) after
+  signs-put e p = record { signs = λ s. signing-put s h (u .yes e) p }
 
-    pub signs-put : t ≡ true → i < length signatures / 2 → {v : Event} {label : List ℕ} {s : Signature} → v ≡ eventAt b i → label ≡ slice text (v .from .0) (v .to .0)
-        → s ≡ signatureOf (identityOf label) → Signs text b n i signatures (put signatures i s)
-    signs-put e h {v} g l m = record { signs = λ s. signed-put s {from = v .from .0} {to = v .to .0} h g refl (rw g (u .yes e)) l m }
+module _ {text b signatures : List ℕ} {i k count : ℕ} {t : Bool} (u : IsPlain b i t) (e : t ≡ true) (q : count ≡ length b / 20) (h : i < count) where
+  pub plain-definition : Signing text b 54 i k signatures → Signing text b 54 (i + 1) k signatures
+  plain-definition s = signing-other s (omega arith) (u .definition e)
 
-module _ {text b signatures : List ℕ} {i : ℕ} {t : Bool} (u : IsPlain b i t) (e : t ≡ true) where
-  pub plain-definition : SignedTo i text b 54 signatures → SignedTo (i + 1) text b 54 signatures
-  plain-definition s = signed-other s (u .definition e)
+  pub plain-footnote : Signing text b 65 i k signatures → Signing text b 65 (i + 1) k signatures
+  plain-footnote s = signing-other s (omega arith) (u .footnote e)
 
-  pub plain-footnote : SignedTo i text b 65 signatures → SignedTo (i + 1) text b 65 signatures
-  plain-footnote s = signed-other s (u .footnote e)
-
-pub signed-by : {text b before after : List ℕ} {n i : ℕ} → Signs text b n i before after → SignedTo i text b n before → SignedTo (i + 1) text b n after
+pub signed-by : {text b before after : List ℕ} {n i k r : ℕ} → Signs text b n i k before r after → Signing text b n i k before → Signing text b n (i + 1) r after
 signed-by p s = p .signs s
 
 -- ---- the search
 
-pub listed-start : (text b : List ℕ) (n : ℕ) (s : List ℕ) {r : ℕ} → NextLabel b n 0 r → listed (identities n text (drop r (eventsOf b))) s ≡ listed (identities n text (eventsOf b)) s
-listed-start text b n s x = ap (λ (ids : List (List ℕ)). listed ids s) (x .passed .same text)
+-- before the event i, the k-th label: the label is among those left exactly when it is among all
+pub record Searching (text b : List ℕ) (n : ℕ) (label : List ℕ) (i k : ℕ) : Type 0 where
+  pub rest : listed (identities n text (drop i (eventsOf b))) (identityOf label) ≡ listed (identities n text (eventsOf b)) (identityOf label)
+  pub found : Found b n i
+  pub reached : Reached text b n i k
 
-module _ (text b : List ℕ) (n : ℕ) (label : List ℕ) {i count : ℕ} {w : Bool} (q : count ≡ length b / 20) (h : i < count)
-    (e : listed (identities n text (drop i (eventsOf b))) (identityOf label) ≡ w) (f : Found b n i) {v : Event} (g : v ≡ eventAt b i) where
-  module _ {l : List ℕ} {t : Bool} (p : l ≡ slice text (v .from .0) (v .to .0)) (o : t ≡ same (identityOf label) (identityOf l)) where
-    pub next-found : t ≡ true → true ≡ w
-    next-found u = listed-found text b n (identityOf label) q h e g refl (slice-here f (omega arith) g) p o u
+-- the way to the next label
+reached-next : {text b : List ℕ} {n from r k : ℕ} → NextLabel b n from r → Reached text b n from k → Reached text b n r k
+reached-next {text} x p =
+    let l = x .passed .on in
+    let m = p .few in
+    record { left = x .passed .same text ∙ p .left; few = omega arith }
 
-    pub next-differs : t ≡ false → {r : ℕ} → NextLabel b n (i + 1) r → listed (identities n text (drop r (eventsOf b))) (identityOf label) ≡ w
-    next-differs u x =
-        ap (λ (ids : List (List ℕ)). listed ids (identityOf label)) (x .passed .same text)
-        ∙ listed-differs text b n (identityOf label) q h e g refl (slice-here f (omega arith) g) p o u
+pub search-start : (text b : List ℕ) (n : ℕ) (label : List ℕ) {r : ℕ} → NextLabel b n 0 r → Searching text b n label r 0
+search-start text b n label x =
+    record {
+      rest = ap (λ (ids : List (List ℕ)). listed ids (identityOf label)) (x .passed .same text);
+      found = x .next;
+      reached = reached-next x (reached-none text b n);
+    }
 
-  pub next-skipped : {signatures : List ℕ} {s : Signature} {t : Bool} → Signed text b n signatures → Skips signatures i s t → t ≡ true → s ≡ signatureOf (identityOf label)
-      → {r : ℕ} → NextLabel b n (i + 1) r → listed (identities n text (drop r (eventsOf b))) (identityOf label) ≡ w
-  next-skipped a j u k x =
-      ap (λ (ids : List (List ℕ)). listed ids (identityOf label)) (x .passed .same text)
-      ∙ listed-skipped text b n label q h e g refl (slice-here f (omega arith) g) a j u k
+module _ {text b : List ℕ} {n : ℕ} {label : List ℕ} {i k count : ℕ} (w : Searching text b n label i k) (q : count ≡ length b / 20) (h : i < count) where
+  here : Labelled b n i
+  here = w .found .found (omega arith)
+
+  -- where the label at i is another
+  search-other : same (identityOf label) (identityOf (slice text (eventAt b i .from .0) (eventAt b i .to .0))) ≡ false → {r : ℕ} → NextLabel b n (i + 1) r → Searching text b n label r (k + 1)
+  search-other u x =
+      record {
+        rest = ap (λ (ids : List (List ℕ)). listed ids (identityOf label)) (x .passed .same text)
+            ∙ listed-other text b n (identityOf label) q h (w .rest) refl refl here u;
+        found = x .next;
+        reached = reached-next x (reached-more (w .reached) (omega arith) here);
+      }
+
+  pub search-skipped : {signatures : List ℕ} {s : Signature} {t : Bool} → Signed text b n signatures → Skips signatures k s t → t ≡ true → s ≡ signatureOf (identityOf label)
+      → {r : ℕ} → NextLabel b n (i + 1) r → Searching text b n label r (k + 1)
+  search-skipped a d u m =
+      let l : i < length b / 20 = omega arith in
+      search-other (skipped label (identityOf (slice text (eventAt b i .from .0) (eventAt b i .to .0))) a (label-below (w .reached) l here) (label-there (w .reached) l here) d u m)
+
+  module _ {v : Event} (g : v ≡ eventAt b i) {l : List ℕ} {t : Bool} (p : l ≡ slice text (v .from .0) (v .to .0)) (o : t ≡ same (identityOf label) (identityOf l)) where
+    compared : t ≡ same (identityOf label) (identityOf (slice text (eventAt b i .from .0) (eventAt b i .to .0)))
+    compared = o ∙ rw (p, g)
+
+    pub search-found : t ≡ true → true ≡ listed (identities n text (eventsOf b)) (identityOf label)
+    search-found u = listed-found text b n (identityOf label) q h (w .rest) refl refl here refl compared u
+
+    pub search-differs : t ≡ false → {r : ℕ} → NextLabel b n (i + 1) r → Searching text b n label r (k + 1)
+    search-differs u = search-other (sym compared ∙ u)
+
+pub search-end : {text b : List ℕ} {n : ℕ} {label : List ℕ} {i k count : ℕ} → Searching text b n label i k → count ≡ length b / 20 → count ≤ i
+    → false ≡ listed (identities n text (eventsOf b)) (identityOf label)
+search-end {text} {b} {n} {label} w q h = listed-end text b n (identityOf label) q h (w .rest)

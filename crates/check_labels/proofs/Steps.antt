@@ -12,8 +12,6 @@ use Rattle.event.specs.declared.Event.{Event}
 use Rattle.event.specs.Event.{isEnter, eventAt, eventsOf}
 use Rattle.event.proofs.Laws.{events-next, events-end}
 use Rattle.normalize_identifier.specs.Identity.{identityOf}
-use Rattle.signature.specs.declared.Signature.{Signature}
-use Rattle.signature.specs.Signature.{signatureOf}
 use Rattle.check_labels.specs.declared.Part.{Part}
 use Rattle.check_labels.specs.declared.Part.the-variants.{Slice, Nothing}
 use Rattle.check_labels.specs.declared.Turn.{Turn}
@@ -21,8 +19,6 @@ use Rattle.check_labels.specs.declared.Turn.the-variants.{On, Own, Out}
 use Rattle.check_labels.specs.declared.Labels.{Labels}
 use Rattle.check_labels.specs.declared.Labels.the-variants.{Yes, At}
 use Rattle.check_labels.specs.Labels.{slice, labelOf, identities, turnOf, ownPart, soughtOf, isDefined, labelHolds, undefinedFrom, undefinedOf}
-use Rattle.check_labels.specs.Signature.{Signed, Skips}
-use Rattle.check_labels.proofs.Signatures.{skipped}
 
 -- ---- an element's own part
 
@@ -130,9 +126,9 @@ module _ (text b : List ℕ) (n : ℕ) (s : List ℕ) {i count : ℕ} {w : Bool}
   labelled = ap (labelOf n) (sym g) ∙ sym r
 
   module _ {from to : ℕ} (m : p ≡ Slice from to) where
-    more : same s (identityOf (slice text from to)) ≡ false → listed (identities n text (drop (i + 1) (eventsOf b))) s ≡ w
+    pub listed-other : same s (identityOf (slice text from to)) ≡ false → listed (identities n text (drop (i + 1) (eventsOf b))) s ≡ w
     unfolding identities
-    more f = rw (here b q h, identities, labelled, m, f) at e
+    listed-other f = rw (here b q h, identities, labelled, m, f) at e
 
     pub listed-found : {t : Bool} {label : List ℕ} → label ≡ slice text from to → t ≡ same s (identityOf label) → t ≡ true → true ≡ w
     unfolding identities
@@ -141,14 +137,7 @@ module _ (text b : List ℕ) (n : ℕ) (s : List ℕ) {i count : ℕ} {w : Bool}
         rw (here b q h, identities, labelled, m, y) at e
 
     pub listed-differs : {t : Bool} {label : List ℕ} → label ≡ slice text from to → t ≡ same s (identityOf label) → t ≡ false → listed (identities n text (drop (i + 1) (eventsOf b))) s ≡ w
-    listed-differs l t u = more (rw (← l) (sym t ∙ u))
-
-pub listed-skipped : (text b : List ℕ) (n : ℕ) (label : List ℕ) {i count : ℕ} {w : Bool} → count ≡ length b / 20 → i < count
-    → listed (identities n text (drop i (eventsOf b))) (identityOf label) ≡ w → {v : Event} {p : Part} → v ≡ eventAt b i → p ≡ labelOf n v → {from to : ℕ} → p ≡ Slice from to
-    → {signatures : List ℕ} {s : Signature} {t : Bool} → Signed text b n signatures → Skips signatures i s t → t ≡ true → s ≡ signatureOf (identityOf label)
-    → listed (identities n text (drop (i + 1) (eventsOf b))) (identityOf label) ≡ w
-listed-skipped text b n label {i} q h e g r m a j t k =
-    more text b n (identityOf label) q h e g r m (skipped label a (omega arith) (labelled text b n (identityOf label) q h e g r ∙ m) j t k)
+    listed-differs l t u = listed-other (rw (← l) (sym t ∙ u))
 
 pub listed-end : (text b : List ℕ) (n : ℕ) (s : List ℕ) {i count : ℕ} {w : Bool} → count ≡ length b / 20 → count ≤ i → listed (identities n text (drop i (eventsOf b))) s ≡ w → false ≡ w
 unfolding identities

@@ -1,31 +1,70 @@
 -- Only links, images and calls need a definition. Assumes nothing.
-use mathlib.Core.Path.{_≡_, refl, _∙_}
+use mathlib.Core.Path.{_≡_, refl, sym, _∙_}
 use mathlib.Core.Bool.{Bool, true, false, true≢false}
 use mathlib.Core.List.{List, [], _∷_}
-use Prim.Native.Nat.{ℕ, _+_, _/_, _<_, _≤_}
+use Prim.Native.Nat.{ℕ, _+_, _/_, _^_, _<_, _≤_}
 use native.Mathlib.Omega.{arith}
+use lib.Bits.{bitAnd, and-mask}
 use lib.Dec.{eqb}
 use lib.ListN.{length, drop}
-use borrow.Author.Tests.{eqb-false}
+use borrow.Author.Tests.{ne-eqb, eqb-true, eqb-false}
 use Rattle.lent.specs.Bytes.{oneOf}
+use Rattle.event.specs.declared.Event.{Event}
 use Rattle.event.specs.Event.{eventAt, eventsOf}
+use Rattle.check_labels.specs.declared.Part.{Part}
+use Rattle.check_labels.specs.declared.Part.the-variants.{Nothing}
 use Rattle.check_labels.specs.declared.Labels.{Labels}
 use Rattle.check_labels.specs.declared.Labels.the-variants.{Yes}
-use Rattle.check_labels.specs.Labels.{labelHolds, undefinedFrom, undefinedOf}
-use Rattle.check_labels.specs.Uses.{IsUse, NextUse}
-use Rattle.check_labels.proofs.Steps.{holds-exit, holds-other, first-start, first-more, first-end}
+use Rattle.check_labels.specs.Labels.{identities, soughtOf, labelHolds, undefinedFrom, undefinedOf}
+use Rattle.check_labels.specs.Uses.{Seeks, Other, IsUse, NextUse}
+use Rattle.check_labels.proofs.Steps.{defined-none, holds-exit, holds-medium, holds-other, first-start, first-more, first-end}
+
+pub low : (x : ℕ) → bitAnd x 63 < 64
+low x = let p = and-mask x 6 in omega arith
+
+-- whether the bit of a name is not set
+abbrev clear : (name : ℕ) → Bool
+clear name = eqb (bitAnd (4611791571543654400 / 2 ^ bitAnd name 63) 1) 0
+
+bit-set : (m : ℕ) {name : ℕ} → clear m ≡ false → clear name ≡ true → name ≡ m → ⊥
+bit-set m p q h = let r : clear m ≡ true = rw h at q in true≢false (sym r ∙ p)
+
+pub is-other : (name : ℕ) → Other name (clear name)
+is-other name = record { none = λ q. (bit-set 45 refl q, bit-set 46 refl q, bit-set 62 refl q) }
 
 -- ---- one event
 
-module _ (b : List ℕ) (i : ℕ) {k : ℕ} (r : k ≡ eventAt b i .kind) where
-  pub use-exit : (k ≡ 0 → ⊥) → IsUse b i false
-  use-exit m = record { holds = λ p text. holds-exit text b (eventAt b i) (drop (i + 1) (eventsOf b)) r m }
+module _ (es : List Event) {p : Part} (q : p ≡ soughtOf es) where
+  pub seeks-slice : Seeks es true
+  seeks-slice = record { none = λ r. absurd (true≢false r) }
 
-  pub use-other : {x : ℕ} {u : Bool} → k ≡ 0 → x ≡ eventAt b i .name → u ≡ oneOf (45 ∷ 46 ∷ []) x → u ≡ false → IsUse b i (eqb x 62)
-  use-other {x} m p o y = record { holds = λ q text. holds-other text b (eventAt b i) (drop (i + 1) (eventsOf b)) r m p o y (eqb-false x 62 q) }
+  pub seeks-none : p ≡ Nothing → Seeks es false
+  seeks-none h = record { none = λ r. sym q ∙ h }
 
-pub use-there : (b : List ℕ) (i : ℕ) → IsUse b i true
-use-there b i = record { holds = λ p. absurd (true≢false p) }
+module _ (b : List ℕ) (i : ℕ) {x : ℕ} (p : x ≡ eventAt b i .name) where
+  pub use-other : {r : Bool} → Other x r → r ≡ true → IsUse b i false
+  use-other {r} o h = record { holds = λ q text. go text (eqb (eventAt b i .kind) 0) refl }
+    where
+      n : (x ≡ 45 → ⊥) × (x ≡ 46 → ⊥) × (x ≡ 62 → ⊥)
+      n = o .none h
+
+      go : (text : List ℕ) (t : Bool) → eqb (eventAt b i .kind) 0 ≡ t → true ≡ labelHolds text (eventsOf b) (eventAt b i) (drop (i + 1) (eventsOf b))
+      go text true k = holds-other text b (eventAt b i) (drop (i + 1) (eventsOf b)) refl (eqb-true (eventAt b i .kind) 0 k) p refl (rw (ne-eqb x 45 (n .0), ne-eqb x 46 (n .1))) (n .2)
+      go text false k = holds-exit text b (eventAt b i) (drop (i + 1) (eventsOf b)) refl (eqb-false (eventAt b i .kind) 0 k)
+
+  module _ {k : ℕ} (r : k ≡ eventAt b i .kind) where
+    pub use-exit : (k ≡ 0 → ⊥) → IsUse b i false
+    use-exit m = record { holds = λ q text. holds-exit text b (eventAt b i) (drop (i + 1) (eventsOf b)) r m }
+
+    module _ (m : k ≡ 0) {u : Bool} (o : u ≡ oneOf (45 ∷ 46 ∷ []) x) where
+      pub use-medium : u ≡ true → {t : Bool} → Seeks (drop (i + 1) (eventsOf b)) t → IsUse b i t
+      use-medium y s =
+          record {
+            holds = λ q text. holds-medium text b (eventAt b i) (drop (i + 1) (eventsOf b)) r m p o y (sym (s .none q)) (defined-none text (identities 54 text (eventsOf b)) refl);
+          }
+
+      pub use-call : u ≡ false → IsUse b i (eqb x 62)
+      use-call y = record { holds = λ q text. holds-other text b (eventAt b i) (drop (i + 1) (eventsOf b)) r m p o y (eqb-false x 62 q) }
 
 -- ---- those on the way to the next
 

@@ -2,15 +2,15 @@
 ghost use mathlib.Core.Path.{_≡_};
 ghost use mathlib.Core.Bool.{_&&_};
 ghost use mathlib.Core.List.{[], _∷_};
-ghost use Prim.Native.Nat.{_+_, _/_, _<_};
+ghost use Prim.Native.Nat.{_+_, _/_, _<_, _≤_};
 ghost use lib.ListN.{length, drop};
 ghost use Rattle.lent.specs.Bytes.{listed, oneOf};
 ghost use Rattle.event.specs.Event.{eventsOf, eventAt};
 ghost use Rattle.normalize_identifier.specs.Identity.{identityOf};
 ghost use Rattle.check_labels.specs.Labels.{turnOf, ownPart, soughtOf, identities, isDefined, labelHolds, undefinedOf};
-ghost use Rattle.check_labels.specs.Signature.{Signed, Signs, Skips};
+ghost use Rattle.check_labels.specs.Signature.{Signed, Signs, Puts, Skips};
 ghost use Rattle.check_labels.specs.Next.{IsLabel, IsPlain, NextLabel};
-ghost use Rattle.check_labels.specs.Uses.{IsUse, NextUse};
+ghost use Rattle.check_labels.specs.Uses.{Other, Seeks, IsUse, NextUse};
 use event::Event;
 use event::EventIndex;
 use signature::Signature;
@@ -67,62 +67,84 @@ fn is_plain(events: &[u8], i: usize) -> bool
     ensures { λ r. ⌜ IsPlain (now (events .entry)) i r ⌝ }
 {
     let name = event::name_at(events, EventIndex(i));
+    if name < Event::DEFINITION_LABEL_STRING {
+        return true;
+    }
     if name == Event::DEFINITION_LABEL_STRING {
         return false;
     }
     name != Event::GFM_FOOTNOTE_DEFINITION_LABEL_STRING
 }
 
-// Puts the signature of an exit of an n at its index, if there is room.
-fn sign_at(text: &[u8], events: &[u8], n: u8, i: usize, signatures: &mut [usize])
+// Puts the signature of the slice of the event at an index at the place k, if there is room.
+fn put(text: &[u8], events: &[u8], i: usize, k: usize, signatures: &mut [usize])
     requires { ⌜ i < length (now events) / 20 ⌝ }
-    ensures { λ r. ⌜ Signs (now (text .entry)) (now (events .entry)) n i (now (signatures .entry)) (now (signatures .exit)) ⌝ }
+    ensures { λ r. ⌜ Puts (now (text .entry)) (eventAt (now (events .entry)) i) k (now (signatures .entry)) (now (signatures .exit)) ⌝ }
 {
-    if signatures.len() / 2 <= i {
+    if signatures.len() / 2 <= k {
         return;
     }
-    if is_label(events, n, i) {
-        let e = Event::read(events, EventIndex(i));
-        let from = e.from.0;
-        let to = e.to.0;
-        let s = signature::sign(signature::part(text, from, to));
-        signatures[2 * i] = s.first;
-        signatures[2 * i + 1] = s.second;
-        return;
-    }
+    let e = Event::read(events, EventIndex(i));
+    let from = e.from.0;
+    let to = e.to.0;
+    let s = signature::sign(signature::part(text, from, to));
+    signatures[2 * k] = s.first;
+    signatures[2 * k + 1] = s.second;
 }
 
-// The signatures of the labels of definitions and footnote definitions, two words at twice an event's index, as far as there is room.
+// Signs the event at an index if it is the exit of an n: the k-th. How many there are then.
+fn sign_at(text: &[u8], events: &[u8], n: u8, i: usize, k: usize, signatures: &mut [usize]) -> usize
+    requires { ⌜ (i < length (now events) / 20) × (k ≤ i) ⌝ }
+    ensures { λ r. ⌜ Signs (now (text .entry)) (now (events .entry)) n i k (now (signatures .entry)) r (now (signatures .exit)) ⌝ }
+{
+    if is_label(events, n, i) {
+        put(text, events, i, k, signatures);
+        return k + 1;
+    }
+    k
+}
+
+// The signatures of the labels of definitions and footnote definitions, two words each, as far as there is room.
 fn sign(text: &[u8], events: &[u8], definitions: &mut [usize], footnotes: &mut [usize])
     ensures { λ r. ⌜ (Signed (now (text .entry)) (now (events .entry)) 54 (now (definitions .exit))) × (Signed (now (text .entry)) (now (events .entry)) 65 (now (footnotes .exit))) ⌝ }
 {
     let count = event::count(events);
-    let mut i = 0;
+    let mut k: usize = 0;
+    let mut l: usize = 0;
+    let mut i: usize = 0;
     while i < count {
         if is_plain(events, i) {
             i += 1;
             continue;
         }
-        sign_at(text, events, Event::DEFINITION_LABEL_STRING, i, definitions);
-        sign_at(
+        k = sign_at(
+            text,
+            events,
+            Event::DEFINITION_LABEL_STRING,
+            i,
+            k,
+            definitions,
+        );
+        l = sign_at(
             text,
             events,
             Event::GFM_FOOTNOTE_DEFINITION_LABEL_STRING,
             i,
+            l,
             footnotes,
         );
         i += 1;
     }
 }
 
-// Whether the label at an index has another signature, so that it is another label.
-fn skips(signatures: &[usize], i: usize, s: Signature) -> bool
-    ensures { λ r. ⌜ Skips (now (signatures .entry)) i s r ⌝ }
+// Whether the k-th label has another signature, so that it is another label.
+fn skips(signatures: &[usize], k: usize, s: Signature) -> bool
+    ensures { λ r. ⌜ Skips (now (signatures .entry)) k s r ⌝ }
 {
-    if signatures.len() / 2 <= i {
+    if signatures.len() / 2 <= k {
         return false;
     }
-    signature::differs(signatures[2 * i], signatures[2 * i + 1], s)
+    signature::differs(signatures[2 * k], signatures[2 * k + 1], s)
 }
 
 // Whether the label of a definition (n is 54) or of a footnote definition (65) has the identity of `label`.
@@ -133,18 +155,21 @@ fn has_label(text: &[u8], events: &[u8], n: u8, signatures: &[usize], label: &[u
     let s = signature::sign(label);
     let count = event::count(events);
     let mut i = next_label(events, n, 0);
+    let mut k: usize = 0;
     while i < count {
+        if skips(signatures, k, s) {
+            i = next_label(events, n, i + 1);
+            k += 1;
+            continue;
+        }
         let e = Event::read(events, EventIndex(i));
         let from = e.from.0;
         let to = e.to.0;
-        if skips(signatures, i, s) {
-            i = next_label(events, n, i + 1);
-            continue;
-        }
         if normalize_identifier::same_identity(label, signature::part(text, from, to)) {
             return true;
         }
         i = next_label(events, n, i + 1);
+        k += 1;
     }
     false
 }
@@ -268,18 +293,41 @@ fn holds(text: &[u8], events: &[u8], definitions: &[usize], footnotes: &[usize],
     true
 }
 
-// Whether the event at an index is the enter of a link, an image or a call.
+// Whether an element whose events start at `from` seeks a label.
+fn seeks(events: &[u8], from: usize) -> bool
+    ensures { λ r. ⌜ Seeks (drop from (eventsOf (now (events .entry)))) r ⌝ }
+{
+    match sought(events, from) {
+        Part::Slice(_, _) => true,
+        Part::Nothing => false,
+    }
+}
+
+// A bit for each name below 64, the lowest for 0, of a link, an image or a call.
+const USES: u64 = 0x4000_6000_0000_0000;
+
+// Whether a name is known to be none of theirs: most are none.
+fn is_other(name: u8) -> bool
+    ensures { λ r. ⌜ Other name r ⌝ }
+{
+    USES >> (name & 63) & 1 == 0
+}
+
+// Whether the event at an index is the enter of a link or an image that seeks a label, or of a call.
 fn is_use(events: &[u8], i: usize) -> bool
     requires { ⌜ i < length (now events) / 20 ⌝ }
     ensures { λ r. ⌜ IsUse (now (events .entry)) i r ⌝ }
 {
+    let name = event::name_at(events, EventIndex(i));
+    if is_other(name) {
+        return false;
+    }
     let kind = event::kind_at(events, EventIndex(i));
     if kind != Event::ENTER {
         return false;
     }
-    let name = event::name_at(events, EventIndex(i));
     if is_medium(name) {
-        return true;
+        return seeks(events, i + 1);
     }
     name == Event::GFM_FOOTNOTE_CALL
 }
@@ -299,13 +347,19 @@ fn next_use(events: &[u8], from: usize) -> usize
     i
 }
 
-// The first enter that does not hold.
-fn first(text: &[u8], events: &[u8], definitions: &[usize], footnotes: &[usize]) -> Labels
-    requires { ⌜ (Signed (now text) (now events) 54 (now definitions)) × (Signed (now text) (now events) 65 (now footnotes)) ⌝ }
+// The first enter that does not hold: none before `from` does not.
+fn first(
+    text: &[u8],
+    events: &[u8],
+    definitions: &[usize],
+    footnotes: &[usize],
+    from: usize,
+) -> Labels
+    requires { ⌜ (Signed (now text) (now events) 54 (now definitions)) × (Signed (now text) (now events) 65 (now footnotes)) × (NextUse (now events) 0 from) ⌝ }
     ensures { λ r. ⌜ r ≡ undefinedOf (now (text .entry)) (now (events .entry)) ⌝ }
 {
     let count = event::count(events);
-    let mut i = next_use(events, 0);
+    let mut i = from;
     while i < count {
         if holds(text, events, definitions, footnotes, i) {
             i = next_use(events, i + 1);
@@ -316,52 +370,39 @@ fn first(text: &[u8], events: &[u8], definitions: &[usize], footnotes: &[usize])
     Labels::Yes
 }
 
-// The same, with room for the signatures: two words for each event.
+// The same, with room for the signatures.
 fn first_signed(
     text: &[u8],
     events: &[u8],
     definitions: &mut [usize],
     footnotes: &mut [usize],
+    from: usize,
 ) -> Labels
+    requires { ⌜ NextUse (now events) 0 from ⌝ }
     ensures { λ r. ⌜ r ≡ undefinedOf (now (text .entry)) (now (events .entry)) ⌝ }
 {
     sign(text, events, definitions, footnotes);
-    first(text, events, definitions, footnotes)
+    first(text, events, definitions, footnotes, from)
 }
 
-fn check_many(text: &[u8], events: &[u8]) -> Labels
+// Room for as many as 6 lets through: those of further ones are not held.
+fn check_uses(text: &[u8], events: &[u8], from: usize) -> Labels
+    requires { ⌜ NextUse (now events) 0 from ⌝ }
     ensures { λ r. ⌜ r ≡ undefinedOf (now (text .entry)) (now (events .entry)) ⌝ }
 {
-    let mut definitions = [0usize; 6400];
-    let mut footnotes = [0usize; 6400];
-    first_signed(text, events, &mut definitions, &mut footnotes)
-}
-
-fn check_few(text: &[u8], events: &[u8]) -> Labels
-    ensures { λ r. ⌜ r ≡ undefinedOf (now (text .entry)) (now (events .entry)) ⌝ }
-{
-    let mut definitions = [0usize; 512];
-    let mut footnotes = [0usize; 512];
-    first_signed(text, events, &mut definitions, &mut footnotes)
-}
-
-// A short list gets little room: clearing it takes time.
-fn check_uses(text: &[u8], events: &[u8]) -> Labels
-    ensures { λ r. ⌜ r ≡ undefinedOf (now (text .entry)) (now (events .entry)) ⌝ }
-{
-    if event::count(events) <= 256 {
-        return check_few(text, events);
-    }
-    check_many(text, events)
+    let mut definitions = [0usize; 256];
+    let mut footnotes = [0usize; 128];
+    first_signed(text, events, &mut definitions, &mut footnotes, from)
 }
 
 // Whether each link, image and call has its definition; else the first, by its enter, that has none.
 pub fn check_labels(text: &[u8], events: &[u8]) -> Labels
     ensures { λ r. ⌜ r ≡ undefinedOf (now (text .entry)) (now (events .entry)) ⌝ }
 {
-    // without a link, an image or a call no label is looked for
-    if next_use(events, 0) < event::count(events) {
-        return check_uses(text, events);
+    let from = next_use(events, 0);
+    // most seek no label: they have a resource
+    if from < event::count(events) {
+        return check_uses(text, events, from);
     }
     Labels::Yes
 }

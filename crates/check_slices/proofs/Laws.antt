@@ -123,9 +123,9 @@ few-by true true f n few p = record { definitions = omega (arith, ltb-true (n .d
 few-by true false true n few p = record { definitions = few .definitions; footnotes = omega (arith, ltb-true (n .footnotes) 64 p) }
 few-by true false false n few p = few
 
-pub stays-few : (n m : Counts) (e : Event) (x : Bool) → Few n → x ≡ countHolds n e → not x ≡ false → m ≡ countedBehind n e → Few m
+pub stays-few : (n m : Counts) (e : Event) (x : Bool) → Few n → x ≡ countHolds n e → x ≡ true → m ≡ countedBehind n e → Few m
 unfolding countHolds countedBehind
-stays-few n m e x few p h q = rw q (few-by (isEnter e) (eqb (e .name) 53) (eqb (e .name) 63) n few (sym p ∙ not-false x h))
+stays-few n m e x few p h q = rw q (few-by (isEnter e) (eqb (e .name) 53) (eqb (e .name) 63) n few (sym p ∙ h))
 
 -- ---- what the two answers say: yes exactly where every event holds in its state, a place exactly where it is the first that does not
 

@@ -1,4 +1,3 @@
 pub mod Rules
 pub mod First
 pub mod Laws
-pub mod Unruled

@@ -1,4 +1,3 @@
 pub mod First
 pub mod Slices
-pub mod Unruled
 pub mod Counts

@@ -1,13 +1,11 @@
-// The checker's passes for refusals 5 and 6: the slices of exits, and how many definitions there are.
+// Refusals 5 and 6: the slices of exits, and how many definitions there are. `check_events` walks over all events.
 ghost use Prim.Native.Nat.{min};
 ghost use mathlib.Core.Path.{_≡_};
 ghost use Rattle.lent.specs.Bytes.{isDigit};
-ghost use Rattle.check_slices.specs.Slices.{isEnding, isItemValue, isLevel, isUnderline, seenBehind, sliceHolds, part, eventHolds, slicesOf};
-ghost use Rattle.check_slices.specs.Unruled.{ruledOf, Unruled};
-ghost use Rattle.check_slices.specs.Counts.{Few, countedBehind, countHolds, countsOf};
+ghost use Rattle.check_slices.specs.Slices.{isEnding, isItemValue, isLevel, isUnderline, seenBehind, sliceHolds, part, eventHolds};
+ghost use Rattle.check_slices.specs.Counts.{Few, countedBehind, countHolds};
 use character_reference::Marker;
 use event::Event;
-use event::EventIndex;
 
 // Yes, or the place of the first event that breaks the rule.
 pub enum Slices {
@@ -129,7 +127,7 @@ fn slice_holds(seen: Seen, name: u8, s: &[u8]) -> bool
     true
 }
 
-// ---- the walk
+// ---- an event
 
 fn least(a: usize, b: usize) -> usize
     ensures { λ r. ⌜ r ≡ min a b ⌝ }
@@ -150,7 +148,7 @@ fn bytes_of(text: &[u8], from: usize, to: usize) -> &[u8]
 }
 
 // Whether an event keeps the rule of its slice: an enter has none.
-fn event_holds(text: &[u8], seen: Seen, e: Event) -> bool
+pub fn event_holds(text: &[u8], seen: Seen, e: Event) -> bool
     ensures { λ r. ⌜ r ≡ eventHolds (now (text .entry)) seen e ⌝ }
 {
     if e.is_enter() {
@@ -161,7 +159,7 @@ fn event_holds(text: &[u8], seen: Seen, e: Event) -> bool
     slice_holds(seen, e.name, bytes_of(text, from, to))
 }
 
-fn seen_behind(seen: Seen, e: Event) -> Seen
+pub fn seen_behind(seen: Seen, e: Event) -> Seen
     ensures { λ r. ⌜ r ≡ seenBehind seen e ⌝ }
 {
     let sequence = seen.sequence;
@@ -202,61 +200,13 @@ fn seen_behind(seen: Seen, e: Event) -> Seen
     seen
 }
 
-// A bit for each name below 64, the lowest for 0, whose enter changes what is looked back for.
-const ENTERS: u64 = 0x2000;
-
-// The same for exits, and for those whose slice has a rule.
-const EXITS: u64 = 0x0404_4F18;
-
-fn ruled(kind: u8) -> u64
-    ensures { λ r. ⌜ r ≡ ruledOf kind ⌝ }
-{
-    if kind == Event::ENTER {
-        return ENTERS;
-    }
-    EXITS
-}
-
-// Whether an event of this kind and name is known to have no rule and to change nothing: most have none.
-fn is_unruled(kind: u8, name: u8) -> bool
-    ensures { λ r. ⌜ Unruled kind name r ⌝ }
-{
-    ruled(kind) >> (name & 63) & 1 == 0
-}
-
-// Refusal 5: yes, or the first exit whose slice breaks its rule.
-pub fn check_slices(text: &[u8], events: &[u8]) -> Slices
-    ensures { λ r. ⌜ r ≡ slicesOf (now (text .entry)) (now (events .entry)) ⌝ }
-{
-    let n = event::count(events);
-    let mut seen = Seen {
-        sequence: false,
-        marker: Marker::Named,
-    };
-    let mut i: usize = 0;
-    while i < n {
-        let kind = event::kind_at(events, EventIndex(i));
-        if is_unruled(kind, event::name_at(events, EventIndex(i))) {
-            i += 1;
-            continue;
-        }
-        let e = Event::read(events, EventIndex(i));
-        if !event_holds(text, seen, e) {
-            return Slices::At(i);
-        }
-        seen = seen_behind(seen, e);
-        i += 1;
-    }
-    Slices::Yes
-}
-
 // ---- the counts
 
 const MOST_DEFINITIONS: usize = 128;
 
 const MOST_FOOTNOTES: usize = 64;
 
-fn count_holds(n: Counts, e: Event) -> bool
+pub fn count_holds(n: Counts, e: Event) -> bool
     ensures { λ r. ⌜ r ≡ countHolds n e ⌝ }
 {
     if e.is_enter() {
@@ -271,7 +221,7 @@ fn count_holds(n: Counts, e: Event) -> bool
     true
 }
 
-fn counted_behind(n: Counts, e: Event) -> Counts
+pub fn counted_behind(n: Counts, e: Event) -> Counts
     requires { ⌜ Few n ⌝ }
     ensures { λ r. ⌜ r ≡ countedBehind n e ⌝ }
 {
@@ -291,25 +241,4 @@ fn counted_behind(n: Counts, e: Event) -> Counts
         return n;
     }
     n
-}
-
-// Refusal 6: yes, or the enter of the 129th definition or the 65th footnote definition.
-pub fn check_counts(events: &[u8]) -> Slices
-    ensures { λ r. ⌜ r ≡ countsOf (now (events .entry)) ⌝ }
-{
-    let n = event::count(events);
-    let mut counts = Counts {
-        definitions: 0,
-        footnotes: 0,
-    };
-    let mut i: usize = 0;
-    while i < n {
-        let e = Event::read(events, EventIndex(i));
-        if !count_holds(counts, e) {
-            return Slices::At(i);
-        }
-        counts = counted_behind(counts, e);
-        i += 1;
-    }
-    Slices::Yes
 }

@@ -9,7 +9,6 @@ use Rattle.nesting.specs.declared.Nesting.{Nesting}
 use Rattle.nesting.specs.declared.Nesting.the-variants as N
 use Rattle.nesting.specs.Tag.{tagsOf}
 use Rattle.nesting.specs.Pass.{nestOf}
-use Rattle.check_fields.specs.declared.Fields.{Fields}
 use Rattle.check_fields.specs.declared.Fields.the-variants as F
 use Rattle.check_fields.specs.Fields.{fieldsOf}
 use Rattle.check_slices.specs.declared.Slices.{Slices}
@@ -19,6 +18,10 @@ use Rattle.check_slices.specs.Counts.{countsOf}
 use Rattle.check_labels.specs.declared.Labels.{Labels}
 use Rattle.check_labels.specs.declared.Labels.the-variants as L
 use Rattle.check_labels.specs.Labels.{undefinedOf}
+use Rattle.check_events.specs.declared.Passed.{Passed}
+use Rattle.check_events.specs.declared.Looked.{Looked}
+use Rattle.check_events.specs.declared.Looked.the-variants as K
+use Rattle.check_events.specs.Looked.{Passes, Looks}
 use Rattle.checker.specs.declared.Checked.{Checked}
 use Rattle.checker.specs.declared.Checked.the-variants.{Yes, WrongLength, NotUtf8, Field, Nested, Slice, Count, Label}
 use Rattle.checker.specs.Checked.{event, sizesHold, checkOf, fromFields, fromNesting, fromSlices, fromCounts, fromLabels}
@@ -38,14 +41,27 @@ module _ (text events : List ℕ) where
       unfolding checkOf
       from-here k e = e ∙ rw (← p, not-false x h, ← q, not-false y k)
 
-  module _ (x : Fields) (p : x ≡ fieldsOf text events) where
-    pub fields-pass : {r : Checked} → x ≡ F.Yes → r ≡ fromNesting text events → r ≡ fromFields text events
-    unfolding fromFields
-    fields-pass q e = e ∙ rw (← p, q)
+  fields-pass : F.Yes ≡ fieldsOf text events → fromNesting text events ≡ fromFields text events
+  unfolding fromFields
+  fields-pass p = rw (← p)
 
-    pub fields-fail : (i : ℕ) → x ≡ F.At i → Field (event i) ≡ fromFields text events
-    unfolding fromFields
-    fields-fail i q = rw (← p, q)
+  fields-fail : (i : ℕ) → F.At i ≡ fieldsOf text events → Field (event i) ≡ fromFields text events
+  unfolding fromFields
+  fields-fail i p = rw (← p)
+
+  module _ (x : Looked) (p : Looks text events x) where
+    pub looked-field : (i : ℕ) → x ≡ K.Field i → Field (event i) ≡ fromFields text events
+    looked-field i q = fields-fail i (rw q at p)
+
+    module _ (v : Passed) (q : x ≡ K.Through v) where
+      looked : Looks text events (K.Through v)
+      looked = rw q at p
+
+      pub looked-passes : Passes text events v
+      looked-passes = looked .1
+
+      pub looked-through : {r : Checked} → r ≡ fromNesting text events → r ≡ fromFields text events
+      looked-through e = e ∙ fields-pass (looked .0)
 
   module _ (x : Nesting) (p : x ≡ nestOf (tagsOf events)) where
     pub nesting-pass : {r : Checked} → x ≡ N.Yes → r ≡ fromSlices text events → r ≡ fromNesting text events

@@ -1,8 +1,9 @@
 // The checker: whether a list of events and its text meet 01's rules, refusals 1 to 7 in the order of their numbers.
 ghost use mathlib.Core.Path.{_≡_};
+ghost use Rattle.check_events.specs.Looked.{Passes};
 ghost use Rattle.checker.specs.Checked.{sizesHold, checkOf, fromFields, fromNesting, fromSlices, fromCounts, fromLabels, numberOf, placeOf};
-ghost use Rattle.checker.specs.Marks.{IsMark, HasMarks};
-use event::Event;
+use check_events::Passed;
+use check_slices::Slices;
 use event::EventIndex;
 
 // Yes, or why not: 01's refusals 1 to 7, with the event where there is one. Left open at the end, it is the count of events.
@@ -79,82 +80,59 @@ fn sizes_hold(text: &[u8], events: &[u8]) -> bool
 fn from_fields(text: &[u8], events: &[u8]) -> Checked
     ensures { λ r. ⌜ r ≡ fromFields (now (text .entry)) (now (events .entry)) ⌝ }
 {
-    match check_fields::check_fields(text, events) {
-        check_fields::Fields::Yes => from_nesting(text, events),
-        check_fields::Fields::At(i) => Checked::Field(EventIndex(i)),
+    match check_events::look(text, events) {
+        check_events::Looked::Field(i) => Checked::Field(EventIndex(i)),
+        check_events::Looked::Through(p) => from_nesting(text, events, p),
     }
 }
 
 // From 4 on.
-fn from_nesting(text: &[u8], events: &[u8]) -> Checked
+fn from_nesting(text: &[u8], events: &[u8], p: Passed) -> Checked
+    requires { ⌜ Passes (now text) (now events) p ⌝ }
     ensures { λ r. ⌜ r ≡ fromNesting (now (text .entry)) (now (events .entry)) ⌝ }
 {
     match nesting::nest(events) {
-        nesting::Nesting::Yes => from_slices(text, events),
+        nesting::Nesting::Yes => from_slices(text, events, p),
         nesting::Nesting::At(i) => Checked::Nested(EventIndex(i)),
     }
 }
 
 // From 5 on.
-fn from_slices(text: &[u8], events: &[u8]) -> Checked
+fn from_slices(text: &[u8], events: &[u8], p: Passed) -> Checked
+    requires { ⌜ Passes (now text) (now events) p ⌝ }
     ensures { λ r. ⌜ r ≡ fromSlices (now (text .entry)) (now (events .entry)) ⌝ }
 {
-    match check_slices::check_slices(text, events) {
-        check_slices::Slices::Yes => from_counts(text, events),
-        check_slices::Slices::At(i) => Checked::Slice(EventIndex(i)),
+    let slices = p.slices;
+    match slices {
+        Slices::Yes => from_counts(text, events, p),
+        Slices::At(i) => Checked::Slice(EventIndex(i)),
     }
 }
 
-// A bit for each name below 64, the lowest for 0, that 6 or 7 looks at: links, images, calls, and the two kinds of definitions.
-const MARKS: u64 = 0xC020_6000_0000_0000;
-
-// Whether 6 or 7 may look at an event of this kind and name.
-fn is_mark(kind: u8, name: u8) -> bool
-    ensures { λ r. ⌜ IsMark kind name r ⌝ }
-{
-    if kind != Event::ENTER {
-        return false;
-    }
-    MARKS >> (name & 63) & 1 == 1
-}
-
-// Whether there may be one.
-fn has_marks(events: &[u8]) -> bool
-    ensures { λ r. ⌜ HasMarks (now (events .entry)) r ⌝ }
-{
-    let count = event::count(events);
-    let mut i: usize = 0;
-    while i < count {
-        let kind = event::kind_at(events, EventIndex(i));
-        if is_mark(kind, event::name_at(events, EventIndex(i))) {
-            return true;
-        }
-        i += 1;
-    }
-    false
-}
-
-// From 6 on: a list without a mark breaks neither 6 nor 7.
-fn from_counts(text: &[u8], events: &[u8]) -> Checked
+// From 6 on.
+fn from_counts(text: &[u8], events: &[u8], p: Passed) -> Checked
+    requires { ⌜ Passes (now text) (now events) p ⌝ }
     ensures { λ r. ⌜ r ≡ fromCounts (now (text .entry)) (now (events .entry)) ⌝ }
 {
-    if has_marks(events) {
-        return from_marks(text, events);
+    let counts = p.counts;
+    match counts {
+        Slices::Yes => from_labels(text, events, p),
+        Slices::At(i) => Checked::Count(EventIndex(i)),
+    }
+}
+
+// 7: a list without a link, an image or a call does not break it.
+fn from_labels(text: &[u8], events: &[u8], p: Passed) -> Checked
+    requires { ⌜ Passes (now text) (now events) p ⌝ }
+    ensures { λ r. ⌜ r ≡ fromLabels (now (text .entry)) (now (events .entry)) ⌝ }
+{
+    if p.uses {
+        return from_uses(text, events);
     }
     Checked::Yes
 }
 
-fn from_marks(text: &[u8], events: &[u8]) -> Checked
-    ensures { λ r. ⌜ r ≡ fromCounts (now (text .entry)) (now (events .entry)) ⌝ }
-{
-    match check_slices::check_counts(events) {
-        check_slices::Slices::Yes => from_labels(text, events),
-        check_slices::Slices::At(i) => Checked::Count(EventIndex(i)),
-    }
-}
-
-// 7.
-fn from_labels(text: &[u8], events: &[u8]) -> Checked
+fn from_uses(text: &[u8], events: &[u8]) -> Checked
     ensures { λ r. ⌜ r ≡ fromLabels (now (text .entry)) (now (events .entry)) ⌝ }
 {
     match check_labels::check_labels(text, events) {

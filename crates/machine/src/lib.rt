@@ -1,4 +1,4 @@
-// The definition's machine: specs/ alone matters here. These types are declared so that the code's state can hold the same ones.
+// The definition's machine: specs/ alone matters here. These types are declared in code, so that the code can have the same ones where it needs them.
 
 // What the next handlers go by.
 pub struct Flags {

@@ -1,5 +1,5 @@
--- The extra field's rule, and zeros. Assumes nothing.
-use Rattle.check_fields.proofs.Cases.{of-enter}
+-- Zeros, then the extra field's rule. Assumes nothing.
+use Rattle.check_fields.proofs.Cases.{with-zeros, without-zeros}
 use borrow.Author.Needs.{needs}
 use Rattle.check_fields.proofs.enter_holds.Statement.{statement}
 use Rattle.check_fields.proofs.enter_holds.Tie as tie
@@ -8,7 +8,10 @@ extra-holds-requires : tie.Need-extra-holds-requires
 extra-holds-requires c κs = search needs
 
 returns : tie.Need-returns
-returns c = search of-enter
+returns c = search with-zeros
+
+returns-2 : tie.Need-returns-2
+returns-2 c = search without-zeros
 
 pub enter-holds-spec : {M : Type 1} → statement M
-enter-holds-spec = tie.close (tie.spec extra-holds-requires returns)
+enter-holds-spec = tie.close (tie.spec extra-holds-requires returns returns-2)

@@ -1,14 +1,11 @@
--- A known kind and name, then by the kind. Assumes nothing.
-use Rattle.check_fields.proofs.Cases.{unknown-kind, unknown-name, known-enter, known-exit}
+-- A known name, then by the kind. Assumes nothing.
+use Rattle.check_fields.proofs.Cases.{unknown-name, known-enter, unknown-kind, known-exit}
 use borrow.Author.Needs.{needs}
 use Rattle.check_fields.proofs.fields_hold.Statement.{statement}
 use Rattle.check_fields.proofs.fields_hold.Tie as tie
 
 returns : tie.Need-returns
-returns c = search unknown-kind
-
-returns-2 : tie.Need-returns-2
-returns-2 c = search unknown-name
+returns c = search unknown-name
 
 is-enter-requires : tie.Need-is-enter-requires
 is-enter-requires c κs = search needs
@@ -16,8 +13,11 @@ is-enter-requires c κs = search needs
 enter-holds-requires : tie.Need-enter-holds-requires
 enter-holds-requires c κs = search needs
 
+returns-2 : tie.Need-returns-2
+returns-2 c = search known-enter
+
 returns-3 : tie.Need-returns-3
-returns-3 c = search known-enter
+returns-3 c = search unknown-kind
 
 exit-holds-requires : tie.Need-exit-holds-requires
 exit-holds-requires c κs = search needs
@@ -26,4 +26,4 @@ returns-4 : tie.Need-returns-4
 returns-4 c = search known-exit
 
 pub fields-hold-spec : {M : Type 1} → statement M
-fields-hold-spec = tie.close (tie.spec returns returns-2 is-enter-requires enter-holds-requires returns-3 exit-holds-requires returns-4)
+fields-hold-spec = tie.close (tie.spec returns is-enter-requires enter-holds-requires returns-2 returns-3 exit-holds-requires returns-4)

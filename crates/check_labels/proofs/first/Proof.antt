@@ -11,16 +11,13 @@ use Rattle.check_labels.proofs.first.Statement.{statement}
 use Rattle.check_labels.proofs.first.Tie as tie
 
 abbrev Inv-loop : tie.InvT-loop
-Inv-loop text events definitions footnotes count i₀ i = undefinedFrom text (eventsOf events) i (drop i (eventsOf events)) ≡ undefinedOf text events
+Inv-loop text events definitions footnotes from count i₀ i = undefinedFrom text (eventsOf events) i (drop i (eventsOf events)) ≡ undefinedOf text events
 
 abbrev μ-loop : tie.MeasureT-loop
-μ-loop text events definitions footnotes count i₀ i = count - i
+μ-loop text events definitions footnotes from count i₀ i = count - i
 
 count-requires : tie.Need-count-requires Inv-loop μ-loop
 count-requires c κs = search needs
-
-next-use-requires : tie.Need-next-use-requires Inv-loop μ-loop
-next-use-requires c κs = search needs
 
 loop-holds : tie.Need-loop-holds Inv-loop μ-loop
 loop-holds c = search use-first
@@ -31,8 +28,8 @@ holds-requires c κs = search needs
 add-next-use : tie.Need-add-next-use Inv-loop μ-loop
 add-next-use c = search needs
 
-next-use-requires-2 : tie.Need-next-use-requires-2 Inv-loop μ-loop
-next-use-requires-2 c κs = search needs
+next-use-requires : tie.Need-next-use-requires Inv-loop μ-loop
+next-use-requires c κs = search needs
 
 loop-less : tie.Need-loop-less Inv-loop μ-loop
 loop-less c = search needs
@@ -53,11 +50,10 @@ first-spec =
     Inv-loop
     μ-loop
     count-requires
-    next-use-requires
     loop-holds
     holds-requires
     add-next-use
-    next-use-requires-2
+    next-use-requires
     loop-less
     loop-again
     returns

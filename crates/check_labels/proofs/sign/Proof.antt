@@ -1,25 +1,25 @@
--- The loop's invariant: the signatures below `i` are right. Assumes nothing.
+-- The loop's invariant: the labels before `i` are signed. Assumes nothing.
 use mathlib.Core.Path.{_≡_}
 use Prim.Native.Nat.{_-_}
 use lib.ListN.{length}
-use Rattle.check_labels.specs.Signature.{SignedTo}
-use Rattle.check_labels.proofs.Signatures.{signed-none, signed-end}
+use Rattle.check_labels.specs.Signature.{Signing}
+use Rattle.check_labels.proofs.Signatures.{signing-none, signing-end}
 use Rattle.check_labels.proofs.Next.{plain-definition, plain-footnote, signed-by}
 use borrow.Author.Needs.{needs}
 use Rattle.check_labels.proofs.sign.Statement.{statement}
 use Rattle.check_labels.proofs.sign.Tie as tie
 
 abbrev Inv-loop : tie.InvT-loop
-Inv-loop text events definitions₀ footnotes₀ count i₀ definitions footnotes i = (SignedTo i text events 54 definitions) × (SignedTo i text events 65 footnotes) × (length definitions ≡ length definitions₀) × (length footnotes ≡ length footnotes₀)
+Inv-loop text events definitions₀ footnotes₀ count k₀ l₀ i₀ definitions footnotes k l i = (Signing text events 54 i k definitions) × (Signing text events 65 i l footnotes) × (length definitions ≡ length definitions₀) × (length footnotes ≡ length footnotes₀)
 
 abbrev μ-loop : tie.MeasureT-loop
-μ-loop text events definitions₀ footnotes₀ count i₀ definitions footnotes i = count - i
+μ-loop text events definitions₀ footnotes₀ count k₀ l₀ i₀ definitions footnotes k l i = count - i
 
 count-requires : tie.Need-count-requires Inv-loop μ-loop
 count-requires c κs = search needs
 
 loop-holds : tie.Need-loop-holds Inv-loop μ-loop
-loop-holds c = search (signed-none, needs)
+loop-holds c = search (signing-none, needs)
 
 is-plain-requires : tie.Need-is-plain-requires Inv-loop μ-loop
 is-plain-requires c κs = search needs
@@ -57,7 +57,7 @@ same-length-2 : tie.Need-same-length-2 Inv-loop μ-loop
 same-length-2 c = search needs
 
 returns : tie.Need-returns Inv-loop μ-loop
-returns c = search (signed-end, needs)
+returns c = search (signing-end, needs)
 
 pub sign-spec : {M : Type 1} → statement M
 sign-spec =

@@ -1,72 +1,27 @@
--- No room, no label, or its signature put. Assumes nothing.
-use native.Mathlib.Omega.{arith}
-use lib.ListN.{length-set}
-use Rattle.check_labels.proofs.Next.{signs-full, signs-none, signs-put}
+-- No label, or its signature put. Assumes nothing.
+use Rattle.check_labels.proofs.Next.{signs-none, signs-put}
 use borrow.Author.Needs.{needs}
 use Rattle.check_labels.proofs.sign_at.Statement.{statement}
 use Rattle.check_labels.proofs.sign_at.Tie as tie
 
-returns : tie.Need-returns
-returns c = search signs-full
-
 is-label-requires : tie.Need-is-label-requires
 is-label-requires c κs = search needs
 
-read-requires : tie.Need-read-requires
-read-requires c κs = search needs
+put-requires : tie.Need-put-requires
+put-requires c κs = search needs
 
-part-requires : tie.Need-part-requires
-part-requires c κs = search needs
-
-sign-requires : tie.Need-sign-requires
-sign-requires c κs = search needs
-
-mul-signatures : tie.Need-mul-signatures
-mul-signatures c = search needs
-
-mul-signatures-2 : tie.Need-mul-signatures-2
-mul-signatures-2 c = search needs
-
-slice-write-signatures : tie.Need-slice-write-signatures
-slice-write-signatures c = search needs
-
-mul-signatures-3 : tie.Need-mul-signatures-3
-mul-signatures-3 c = search needs
-
-add-signatures : tie.Need-add-signatures
-add-signatures c = search needs
-
-mul-signatures-4 : tie.Need-mul-signatures-4
-mul-signatures-4 c = search needs
-
-slice-write-signatures-2 : tie.Need-slice-write-signatures-2
-slice-write-signatures-2 c = simp length-set (omega arith)
+add-result : tie.Need-add-result
+add-result c = search needs
 
 same-length : tie.Need-same-length
-same-length c = simp length-set
+same-length c = search needs
+
+returns : tie.Need-returns
+returns c = search signs-put
 
 returns-2 : tie.Need-returns-2
-returns-2 c = search signs-put
-
-returns-3 : tie.Need-returns-3
-returns-3 c = search signs-none
+returns-2 c = search signs-none
 
 pub sign-at-spec : {M : Type 1} → statement M
 sign-at-spec =
-    tie.close
-    (tie.spec
-    returns
-    is-label-requires
-    read-requires
-    part-requires
-    sign-requires
-    mul-signatures
-    mul-signatures-2
-    slice-write-signatures
-    mul-signatures-3
-    add-signatures
-    mul-signatures-4
-    slice-write-signatures-2
-    same-length
-    returns-2
-    returns-3)
+    tie.close (tie.spec is-label-requires put-requires add-result same-length returns returns-2)

@@ -2,27 +2,27 @@
 use borrow.Author.Needs.{needs}
 use Rattle.checker.proofs.from_fields.Statement.{statement}
 use Rattle.checker.proofs.from_fields.Tie as tie
-use Rattle.checker.proofs.Order.{fields-pass, fields-fail}
+use Rattle.checker.proofs.Order.{looked-field, looked-passes, looked-through}
 
-check-fields-requires : tie.Need-check-fields-requires
-check-fields-requires c κs = search needs
-
-enum-told : tie.Need-enum-told
-enum-told c = search needs
-
-from-nesting-requires : tie.Need-from-nesting-requires
-from-nesting-requires c κs = search needs
+look-requires : tie.Need-look-requires
+look-requires c κs = search needs
 
 enum-known-i : tie.Need-enum-known-i
 enum-known-i c = search needs
 
+enum-known-p : tie.Need-enum-known-p
+enum-known-p c = search needs
+
+from-nesting-requires : tie.Need-from-nesting-requires
+from-nesting-requires c κs = search looked-passes
+
 returns : tie.Need-returns
-returns c = search fields-pass
+returns c = search looked-field
 
 returns-2 : tie.Need-returns-2
-returns-2 c = search fields-fail
+returns-2 c = search looked-through
 
 pub from-fields-spec : {M : Type 1} → statement M
 from-fields-spec =
     tie.close
-    (tie.spec check-fields-requires enum-told from-nesting-requires enum-known-i returns returns-2)
+    (tie.spec look-requires enum-known-i enum-known-p from-nesting-requires returns returns-2)

@@ -1,24 +1,17 @@
--- What the pass for 7 answers is the answer.
+-- Without a link, an image or a call, yes.
 use borrow.Author.Needs.{needs}
 use Rattle.checker.proofs.from_labels.Statement.{statement}
 use Rattle.checker.proofs.from_labels.Tie as tie
-use Rattle.checker.proofs.Order.{labels-pass, labels-fail}
+use Rattle.checker.proofs.Uses.{no-uses}
 
-check-labels-requires : tie.Need-check-labels-requires
-check-labels-requires c κs = search needs
-
-enum-told : tie.Need-enum-told
-enum-told c = search needs
-
-enum-known-i : tie.Need-enum-known-i
-enum-known-i c = search needs
+from-uses-requires : tie.Need-from-uses-requires
+from-uses-requires c κs = search needs
 
 returns : tie.Need-returns
-returns c = search labels-pass
+returns c = search needs
 
 returns-2 : tie.Need-returns-2
-returns-2 c = search labels-fail
+returns-2 c = search no-uses
 
 pub from-labels-spec : {M : Type 1} → statement M
-from-labels-spec =
-    tie.close (tie.spec check-labels-requires enum-told enum-known-i returns returns-2)
+from-labels-spec = tie.close (tie.spec from-uses-requires returns returns-2)

@@ -4,17 +4,14 @@ use Rattle.checker.proofs.from_slices.Statement.{statement}
 use Rattle.checker.proofs.from_slices.Tie as tie
 use Rattle.checker.proofs.Order.{slices-pass, slices-fail}
 
-check-slices-requires : tie.Need-check-slices-requires
-check-slices-requires c κs = search needs
-
 enum-told : tie.Need-enum-told
 enum-told c = search needs
 
 from-counts-requires : tie.Need-from-counts-requires
 from-counts-requires c κs = search needs
 
-enum-known-i : tie.Need-enum-known-i
-enum-known-i c = search needs
+enum-known-slices : tie.Need-enum-known-slices
+enum-known-slices c = search needs
 
 returns : tie.Need-returns
 returns c = search slices-pass
@@ -24,5 +21,4 @@ returns-2 c = search slices-fail
 
 pub from-slices-spec : {M : Type 1} → statement M
 from-slices-spec =
-    tie.close
-    (tie.spec check-slices-requires enum-told from-counts-requires enum-known-i returns returns-2)
+    tie.close (tie.spec enum-told from-counts-requires enum-known-slices returns returns-2)

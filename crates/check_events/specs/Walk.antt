@@ -1,0 +1,48 @@
+-- The steps of the walk: no part of a promise. Assumes nothing.
+use mathlib.Core.Path.{_≡_}
+use mathlib.Core.Bool.{Bool, true, false}
+use mathlib.Core.List.{List}
+use Prim.Native.Nat.{ℕ, _≤_, _<_}
+use lib.Dec.{ltb}
+use Rattle.lent.specs.Bytes.{if_then_else_}
+use Rattle.event.specs.declared.Event.{Event}
+use Rattle.event.specs.Event.{isEnter}
+use Rattle.check_slices.specs.declared.Seen.{Seen}
+use Rattle.check_slices.specs.declared.Counts.{Counts}
+use Rattle.check_slices.specs.declared.Slices.{Slices}
+use Rattle.check_slices.specs.declared.Slices.the-variants.{Yes, At}
+use Rattle.check_slices.specs.Slices.{seenBehind, eventHolds}
+use Rattle.check_slices.specs.Counts.{countedBehind, countHolds}
+use Rattle.check_events.specs.Looked.{isUse}
+
+-- the event i of a pass over count events: what is wrong first, and the state, before it and behind it
+module _ {S : Type 0} (holds : S → Event → Bool) (behind : S → Event → S) where
+  pub record Step (i count : ℕ) (e : Event) (wrong : ℕ) (s : S) (next : ℕ) (t : S) : Type 0 where
+    pub over : wrong < count → next ≡ wrong
+    pub on : count ≤ wrong → holds s e ≡ true → next ≡ wrong
+    pub state : count ≤ wrong → holds s e ≡ true → t ≡ behind s e
+    pub breaks : count ≤ wrong → holds s e ≡ false → next ≡ i
+
+-- a pass's answer
+abbrev pub placeOf : (wrong count : ℕ) → Slices
+placeOf wrong count = if ltb wrong count then At wrong else Yes
+
+-- an event that keeps the rule for slices in any text and state, which it leaves as it is
+pub record Unsliced (e : Event) : Type 0 where
+  pub holds : (text : List ℕ) (seen : Seen) → eventHolds text seen e ≡ true
+  pub stays : (seen : Seen) → seen ≡ seenBehind seen e
+
+-- the same for the counts; and 7 does not look at it
+pub record Uncounted (e : Event) : Type 0 where
+  pub holds : (n : Counts) → countHolds n e ≡ true
+  pub stays : (n : Counts) → n ≡ countedBehind n e
+  pub unused : isUse e ≡ false
+
+-- where the answer is yes, an enter of this name is both
+pub record IdleEnter (name : ℕ) (r : Bool) : Type 0 where
+  pub unsliced : r ≡ true → (e : Event) → isEnter e ≡ true → e .name ≡ name → Unsliced e
+  pub uncounted : r ≡ true → (e : Event) → isEnter e ≡ true → e .name ≡ name → Uncounted e
+
+-- an exit is no definition: where the answer is yes, one of this name has no slice either
+pub record IdleExit (name : ℕ) (r : Bool) : Type 0 where
+  pub unsliced : r ≡ true → (e : Event) → isEnter e ≡ false → e .name ≡ name → Unsliced e
