@@ -12,7 +12,7 @@ use Rattle.machine.specs.Outcome.{go, need}
 use Rattle.machine.specs.Set.{setColumn}
 use Rattle.machine.specs.Turn.{Turn}
 use Rattle.machine.specs.Test.{Test, isPastColumns, test}
-use Rattle.machine.specs.Command.{Command, whether, nextColumn, missingCells, repeat, buffer, drop, exec}
+use Rattle.machine.specs.Command.{Command, _▸_, whether, put, alignment, lineEndingIfNeeded, nextColumn, missingCells, repeat, buffer, drop, exec}
 use Rattle.machine.specs.OnTable.{onEnterGfmTableCell, onExitGfmTableCell}
 use Rattle.bounded.specs.Within.{within}
 use Rattle.bounded.proofs.Bounds.{done}
@@ -21,7 +21,7 @@ use Rattle.context.specs.Rel.{Rel, Any, Keeps, Sets}
 use Rattle.context.proofs.Commands.{first-goes}
 use Rattle.table.specs.Table.{Lacks}
 use Rattle.table.proofs.Asked.{needed}
-use Rattle.on_cell.specs.Private.{openingCell, closingCell, phantomCell, AddsCell}
+use Rattle.on_cell.specs.Private.{cellName, openingCell, closingCell, phantomCell, AddsCell}
 use Rattle.on_cell.proofs.Leaves.{leaves-seq, leaves-whether, leaves-put, leaves-line, leaves-alignment}
 
 -- ---- one cell
@@ -54,12 +54,26 @@ way t s u a p =
     let m = leaves-whether leaves-put leaves-put .leaves t (f .0) (g .0) j in
     record { opened = f .0; closed = g .0; opens = i; closes = j; counts = g .2; table = m ∙ l }
 
-pub adds : {c r q z : Context} {w o w′ o′ w″ o″ : List ℕ} → Keeps Any openingCell c w o r w′ o′ → Keeps Any closingCell r w′ o′ q w″ o″ → Sets nextColumn q z → AddsCell c w o z w″ o″
-adds {w″ = w″} {o″ = o″} k l m = record {
+-- one command and then another
+goes-on : (d e : Command) (t : Turn) (s y u : State) → within d t s ≡ go y → within e t y ≡ go u → within (d ▸ e) t s ≡ go u
+unfolding within
+goes-on d e t s y u p q = rw p q
+
+-- the last two of a cell's texts together
+ends-so : (t : Turn) (s y u : State) → within openingCell t s ≡ go y → within closingCell t y ≡ go u → within (lineEndingIfNeeded ▸ cellName ▸ alignment ▸ put ">" ▸ closingCell) t s ≡ go u
+unfolding within
+ends-so t s y u p q =
+    let f = first-goes (within lineEndingIfNeeded t s) (λ z. within (cellName ▸ alignment ▸ put ">") t z) y p in
+    let g = first-goes (within cellName t (f .0)) (λ z. within (alignment ▸ put ">") t z) y (f .2) in
+    let h = first-goes (within alignment t (g .0)) (λ z. within (put ">") t z) y (g .2) in
+    goes-on lineEndingIfNeeded (cellName ▸ alignment ▸ put ">" ▸ closingCell) t s (f .0) u (f .1)
+    (goes-on cellName (alignment ▸ put ">" ▸ closingCell) t (f .0) (g .0) u (g .1) (goes-on alignment (put ">" ▸ closingCell) t (g .0) (h .0) u (h .1) (goes-on (put ">") closingCell t (h .0) y u (h .2) q)))
+
+pub adds : {c q z : Context} {w o w″ o″ : List ℕ} → Keeps Any (lineEndingIfNeeded ▸ cellName ▸ alignment ▸ put ">" ▸ closingCell) c w o q w″ o″ → Sets nextColumn q z → AddsCell c w o z w″ o″
+adds {w″ = w″} {o″ = o″} k m = record {
   adds = λ t b s u a x p.
       let y = way t s u a p in
-      let i = k .keeps t b s (y .opened) (record {}) x (y .opens) in
-      let j = l .keeps t b (y .opened) (y .closed) (record {}) i (y .closes) in
+      let j = k .keeps t b s (y .closed) (record {}) x (ends-so t s (y .opened) (y .closed) (y .opens) (y .closes)) in
       m .sets w″ o″ .keeps t b (y .closed) u (record {}) j (y .counts);
 }
 

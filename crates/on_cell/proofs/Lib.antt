@@ -1,3 +1,4 @@
 pub mod Either
 pub mod Leaves
 pub mod Cells
+mod Empty

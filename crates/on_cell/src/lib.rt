@@ -1,6 +1,6 @@
 // Handlers of the rows and cells of a table, by their Rust names.
 ghost use Rattle.machine.specs.OnTable.{onEnterGfmTableCell, onExitGfmTableCell, onEnterGfmTableRow, onExitGfmTableRow};
-ghost use Rattle.machine.specs.Command.{missingCells};
+ghost use Rattle.machine.specs.Command.{_▸_, put, missingCells};
 ghost use Rattle.context.specs.Rel.{Any, Keeps, Opens, Takes};
 ghost use Rattle.on_cell.specs.Private.{cellName, openingCell, closingCell, phantomCell, AddsCell};
 use context::Context;
@@ -74,12 +74,24 @@ pub fn on_enter_gfm_table_row(c: Context, captures: &mut [u8], out: &mut [u8]) -
     context::push(r, captures, out, b"<tr>")
 }
 
+// The end of an empty cell, as one text: so `open_cell` and `close_cell` have one caller each, and the compiler puts them into the pass.
+fn end_empty_cell(c: Context, captures: &mut [u8], out: &mut [u8]) -> Context
+    ensures { λ r. ⌜ Keeps Any (put ">" ▸ closingCell) c (now (captures .entry)) (now (out .entry)) r (now (captures .exit)) (now (out .exit)) ⌝ }
+{
+    if context::is_head(c) {
+        return context::push(c, captures, out, b"></th>");
+    }
+    context::push(c, captures, out, b"></td>")
+}
+
 // A cell that the row lacks. Its column is one of the table's, so that none is captured.
 fn push_phantom_cell(c: Context, captures: &mut [u8], out: &mut [u8]) -> Context
     ensures { λ r. ⌜ AddsCell c (now (captures .entry)) (now (out .entry)) r (now (captures .exit)) (now (out .exit)) ⌝ }
 {
-    let opened = open_cell(c, captures, out);
-    let r = close_cell(opened, captures, out);
+    let line = context::line_ending_if_needed(c, captures, out);
+    let name = push_cell_name(line, captures, out);
+    let aligned = table::push_alignment(name, captures, out);
+    let r = end_empty_cell(aligned, captures, out);
     table::next_column(r)
 }
 

@@ -1,37 +1,61 @@
 -- The cell, where it is not past the columns.
 use borrow.Author.Needs.{needs}
+use native.Mathlib.Omega.{arith}
+use Rattle.context.proofs.Commands.{seq}
+use Rattle.on_cell.proofs.Cells.{adds}
 use Rattle.on_cell.proofs.push_phantom_cell.Statement.{statement}
 use Rattle.on_cell.proofs.push_phantom_cell.Tie as tie
-use Rattle.on_cell.proofs.Cells.{adds}
 
-open-cell-requires : tie.Need-open-cell-requires
-open-cell-requires c κs = search needs
+line-ending-if-needed-requires : tie.Need-line-ending-if-needed-requires
+line-ending-if-needed-requires c κs = search needs
 
-close-cell-requires : tie.Need-close-cell-requires
-close-cell-requires c κs = search needs
+push-cell-name-requires : tie.Need-push-cell-name-requires
+push-cell-name-requires c κs = search needs
+
+push-alignment-requires : tie.Need-push-alignment-requires
+push-alignment-requires c κs = search needs
+
+end-empty-cell-requires : tie.Need-end-empty-cell-requires
+end-empty-cell-requires c κs = search needs
 
 next-column-requires : tie.Need-next-column-requires
 next-column-requires c κs = search needs
 
 same-length : tie.Need-same-length
-same-length c = search needs
+same-length c =
+    let c5 = c in
+    let c4 = c5 .before .before .before .before .before in
+    let c3 = c4 .before .before .before .before .before .before .before in
+    let c2 = c3 .before .before .before .before .before .before .before in
+    let c1 = c2 .before .before .before .before .before .before .before in
+    omega (arith, (c1 .line-ending-if-needed .kept), (c2 .push-cell-name .kept), (c3 .push-alignment .kept), (c4 .end-empty-cell .kept))
 
 same-length-2 : tie.Need-same-length-2
-same-length-2 c = search needs
+same-length-2 c =
+    let c5 = c in
+    let c4 = c5 .before .before .before .before .before in
+    let c3 = c4 .before .before .before .before .before .before .before in
+    let c2 = c3 .before .before .before .before .before .before .before in
+    let c1 = c2 .before .before .before .before .before .before .before in
+    omega (arith, (c1 .line-ending-if-needed .kept), (c2 .push-cell-name .kept), (c3 .push-alignment .kept), (c4 .end-empty-cell .kept))
 
 returns : tie.Need-returns
 returns c =
-    let c3 = c in
-    let c2 = c3 .before .before .before .before .before in
+    let c5 = c in
+    let c4 = c5 .before .before .before .before .before in
+    let c3 = c4 .before .before .before .before .before .before .before in
+    let c2 = c3 .before .before .before .before .before .before .before in
     let c1 = c2 .before .before .before .before .before .before .before in
-    adds (c1 .open-cell .ensures) (c2 .close-cell .ensures) (c3 .next-column .ensures)
+    adds (seq (c1 .line-ending-if-needed .ensures) (seq (c2 .push-cell-name .ensures) (seq (c3 .push-alignment .ensures) (c4 .end-empty-cell .ensures)))) (c5 .next-column .ensures)
 
 pub push-phantom-cell-spec : {M : Type 1} → statement M
 push-phantom-cell-spec =
     tie.close
     (tie.spec
-    open-cell-requires
-    close-cell-requires
+    line-ending-if-needed-requires
+    push-cell-name-requires
+    push-alignment-requires
+    end-empty-cell-requires
     next-column-requires
     same-length
     same-length-2
