@@ -1,3 +1,4 @@
 pub mod Idle
 pub mod Follow
 pub mod Walked
+pub mod Nested

@@ -6,9 +6,10 @@ use Prim.Native.Nat.{ℕ, _+_, _/_, _<_, _≤_}
 use native.Mathlib.Omega.{arith}
 use borrow.Author.Count.{below-more}
 use borrow.Author.Tests.{not-true, not-false}
-use lib.ListN.{length, drop}
+use lib.ListN.{length}
 use Rattle.event.specs.declared.Event.{Event}
 use Rattle.event.specs.Event.{isEnter, eventAt, eventsOf}
+use Rattle.nesting.proofs.Laws.{Inv, all-closed, left-open}
 use Rattle.check_fields.specs.declared.Fields.the-variants as F
 use Rattle.check_fields.specs.First.{firstBreak}
 use Rattle.check_fields.specs.Fields.{fieldsHold, fieldsOf}
@@ -20,10 +21,26 @@ use Rattle.check_slices.proofs.Laws.{enter-holds, behind-heading}
 use Rattle.check_events.specs.declared.Slicing.{Slicing}
 use Rattle.check_events.specs.declared.Counting.{Counting}
 use Rattle.check_events.specs.declared.Passed.{Passed}
-use Rattle.check_events.specs.Looked.{isUse, Passes}
-use Rattle.check_events.specs.Walk.{Step, placeOf, Unsliced, Uncounted, IdleEnter, IdleExit}
+use Rattle.check_events.specs.declared.Looked.{Looked}
+use Rattle.check_events.specs.declared.Looked.the-variants.{Field, Nested, Through}
+use Rattle.check_events.specs.Looked.{isUse, Passes, Looks}
+use Rattle.check_events.specs.Walk.{Step, Unsliced, Uncounted, IdleEnter, IdleExit, FieldsTo, Answers, Ends}
 use Rattle.check_events.proofs.Idle.{unsliced-enter, uncounted-exit, uncounted-heading}
 use Rattle.check_events.proofs.Follow.{Follows, follow-start, follow-idle, follow-step, follow-end}
+
+-- ---- fields
+
+module _ (text b : List ℕ) (i count : ℕ) (w : FieldsTo text b i) (l : count ≡ length b / 20) where
+  pub fields-at : i < count → {e : Event} → e ≡ eventAt b i → {x : Bool} → x ≡ fieldsHold text e → not x ≡ true → F.At i ≡ fieldsOf text b
+  fields-at h p {x} q r = answer-at text b (break-here (fieldsHold text) b i count (firstBreak (fieldsHold text) 0 (eventsOf b)) l w h p q (not-true x r))
+
+  pub fields-next : i < count → {e : Event} → e ≡ eventAt b i → {x : Bool} → x ≡ fieldsHold text e → not x ≡ false → FieldsTo text b (i + 1)
+  fields-next h p {x} q r = break-next (fieldsHold text) b i count (firstBreak (fieldsHold text) 0 (eventsOf b)) l w h p q (not-false x r)
+
+  pub fields-end : count ≤ i → F.Yes ≡ fieldsOf text b
+  fields-end h = answer-yes text b (break-none (fieldsHold text) b i count (firstBreak (fieldsHold text) 0 (eventsOf b)) l w h)
+
+-- ---- all passes but that for 4
 
 module _ (text b : List ℕ) (count : ℕ) where
   abbrev Slices : ℕ → Slicing → Type 0
@@ -34,7 +51,7 @@ module _ (text b : List ℕ) (count : ℕ) where
 
   -- before the event i: all that is left says what the whole says
   pub record Walked (i : ℕ) (s : Slicing) (n : Counting) : Type 0 where
-    pub fields : firstBreak (fieldsHold text) i (drop i (eventsOf b)) ≡ firstBreak (fieldsHold text) 0 (eventsOf b)
+    pub fields : FieldsTo text b i
     pub slices : Slices i s
     pub counts : Counts i n
     pub few : Few (n .counts)
@@ -54,7 +71,7 @@ module _ (text b : List ℕ) (count : ℕ) where
   module _ {i : ℕ} {s : Slicing} {n : Counting} (w : Walked i s n) (l : count ≡ length b / 20) where
     module _ (h : i < count) {e : Event} (p : e ≡ eventAt b i) {x : Bool} (q : x ≡ fieldsHold text e) where
       pub walked-field : not x ≡ true → F.At i ≡ fieldsOf text b
-      walked-field r = answer-at text b (break-here (fieldsHold text) b i count (firstBreak (fieldsHold text) 0 (eventsOf b)) l (w .fields) h p q (not-true x r))
+      walked-field r = fields-at text b i count (w .fields) l h p q r
 
       module _ (r : not x ≡ false) where
         -- behind an event that 5 looks at, and 6 and 7 do not
@@ -62,7 +79,7 @@ module _ (text b : List ℕ) (count : ℕ) where
         by-slices y f =
             let u : Uncounted (eventAt b i) = rw p at y in
             record {
-              fields = break-next (fieldsHold text) b i count (firstBreak (fieldsHold text) 0 (eventsOf b)) l (w .fields) h p q (not-false x r);
+              fields = fields-next text b i count (w .fields) l h p q r;
               slices = f;
               counts = follow-idle countHolds countedBehind b count (countsOf b) (w .counts) l h (u .holds (n .counts)) (u .stays (n .counts));
               few = w .few;
@@ -94,7 +111,7 @@ module _ (text b : List ℕ) (count : ℕ) where
             pub walked-mark : (e .name ≡ 13 → ⊥) → {v : Counting} → Step countHolds countedBehind i count e (n .wrong) (n .counts) (v .wrong) (v .counts) → Few (v .counts) → v .uses ≡ true → Walked (i + 1) s v
             walked-mark m o f z =
                 record {
-                  fields = break-next (fieldsHold text) b i count (firstBreak (fieldsHold text) 0 (eventsOf b)) l (w .fields) h p q (not-false x r);
+                  fields = fields-next text b i count (w .fields) l h p q r;
                   slices = slices-on (unsliced-enter e (sym k ∙ g) m);
                   counts = follow-step countHolds countedBehind b count (countsOf b) (w .counts) l h p o;
                   few = f;
@@ -109,13 +126,18 @@ module _ (text b : List ℕ) (count : ℕ) where
             walked-slice o = by-slices (uncounted-exit e (sym k ∙ g)) (follow-step (eventHolds text) seenBehind b count (slicesOf text b) (w .slices) l h p o)
 
     module _ (h : count ≤ i) where
-      pub walked-fields : F.Yes ≡ fieldsOf text b
-      walked-fields = answer-yes text b (break-none (fieldsHold text) b i count (firstBreak (fieldsHold text) 0 (eventsOf b)) l (w .fields) h)
-
-      pub walked-end : {p : Passed} → p .slices ≡ placeOf (s .wrong) count → p .counts ≡ placeOf (n .wrong) count → p .uses ≡ n .uses → Passes text b p
-      walked-end q r t =
+      walked-end : {p : Passed} → Answers s n count p → Passes text b p
+      walked-end a =
           record {
-            slices = q ∙ follow-end (eventHolds text) seenBehind b count (slicesOf text b) (w .slices) l h;
-            counts = r ∙ follow-end countHolds countedBehind b count (countsOf b) (w .counts) l h;
-            unused = λ u k y. w .unused (sym t ∙ u) k (omega arith);
+            slices = a .slices ∙ follow-end (eventHolds text) seenBehind b count (slicesOf text b) (w .slices) l h;
+            counts = a .counts ∙ follow-end countHolds countedBehind b count (countsOf b) (w .counts) l h;
+            unused = λ u k y. w .unused (sym (a .uses) ∙ u) k (omega arith);
           }
+
+      -- the end
+      pub walked-all : {ns bs : List ℕ} {d q : ℕ} → Inv b ns bs d q i → (r : Looked) → Ends d s n count r → Looks text b r
+      walked-all v (Field j) x = absurd x
+      walked-all v (Nested j) x =
+          let m : j ≡ length b / 20 = x .1 ∙ l in
+          (fields-end text b i count (w .fields) l h, rw m (left-open v (omega arith) (x .0)))
+      walked-all v (Through p) x = (fields-end text b i count (w .fields) l h, all-closed v (omega arith) (x .0), walked-end (x .1))

@@ -1,4 +1,4 @@
--- What the walk says: refusal 3's answer or, where that is yes, those of 5 and 6, and whether 7 may look at an event. Assumes nothing.
+-- What the walk says: refusal 3's answer, where that is yes 4's, and where that is yes those of 5 and 6, and whether 7 may look at an event. Assumes nothing.
 use mathlib.Core.Path.{_≡_}
 use mathlib.Core.Bool.{Bool, false, _&&_}
 use mathlib.Core.List.{List, [], _∷_}
@@ -6,13 +6,16 @@ use Prim.Native.Nat.{ℕ, _/_, _<_}
 use lib.ListN.{length}
 use Rattle.event.specs.declared.Event.{Event}
 use Rattle.event.specs.Event.{isEnter, named, eventAt}
+use Rattle.nesting.specs.declared.Nesting.the-variants as N
+use Rattle.nesting.specs.Tag.{tagsOf}
+use Rattle.nesting.specs.Pass.{nestOf}
 use Rattle.check_fields.specs.declared.Fields.the-variants as F
 use Rattle.check_fields.specs.Fields.{fieldsOf}
 use Rattle.check_slices.specs.Slices.{slicesOf}
 use Rattle.check_slices.specs.Counts.{countsOf}
 use Rattle.check_events.specs.declared.Passed.{Passed}
 use Rattle.check_events.specs.declared.Looked.{Looked}
-use Rattle.check_events.specs.declared.Looked.the-variants.{Field, Through}
+use Rattle.check_events.specs.declared.Looked.the-variants.{Field, Nested, Through}
 
 -- the enter of a link, an image or a call
 abbrev pub isUse : Event → Bool
@@ -29,4 +32,5 @@ pub record Passes (text events : List ℕ) (p : Passed) : Type 0 where
 
 abbrev pub Looks : (text events : List ℕ) → Looked → Type 0
 Looks text events (Field i) = F.At i ≡ fieldsOf text events
-Looks text events (Through p) = (F.Yes ≡ fieldsOf text events) × Passes text events p
+Looks text events (Nested i) = (F.Yes ≡ fieldsOf text events) × (N.At i ≡ nestOf (tagsOf events))
+Looks text events (Through p) = (F.Yes ≡ fieldsOf text events) × (N.Yes ≡ nestOf (tagsOf events)) × Passes text events p

@@ -4,15 +4,23 @@ use mathlib.Core.Bool.{Bool, true, false}
 use mathlib.Core.List.{List}
 use Prim.Native.Nat.{ℕ, _≤_, _<_}
 use lib.Dec.{ltb}
+use lib.ListN.{drop}
 use Rattle.lent.specs.Bytes.{if_then_else_}
 use Rattle.event.specs.declared.Event.{Event}
-use Rattle.event.specs.Event.{isEnter}
+use Rattle.event.specs.Event.{isEnter, eventsOf}
+use Rattle.check_fields.specs.First.{firstBreak}
+use Rattle.check_fields.specs.Fields.{fieldsHold}
 use Rattle.check_slices.specs.declared.Seen.{Seen}
 use Rattle.check_slices.specs.declared.Counts.{Counts}
 use Rattle.check_slices.specs.declared.Slices.{Slices}
 use Rattle.check_slices.specs.declared.Slices.the-variants.{Yes, At}
 use Rattle.check_slices.specs.Slices.{seenBehind, eventHolds}
 use Rattle.check_slices.specs.Counts.{countedBehind, countHolds}
+use Rattle.check_events.specs.declared.Slicing.{Slicing}
+use Rattle.check_events.specs.declared.Counting.{Counting}
+use Rattle.check_events.specs.declared.Passed.{Passed}
+use Rattle.check_events.specs.declared.Looked.{Looked}
+use Rattle.check_events.specs.declared.Looked.the-variants.{Field, Nested, Through}
 use Rattle.check_events.specs.Looked.{isUse}
 
 -- the event i of a pass over count events: what is wrong first, and the state, before it and behind it
@@ -46,3 +54,19 @@ pub record IdleEnter (name : ℕ) (r : Bool) : Type 0 where
 -- an exit is no definition: where the answer is yes, one of this name has no slice either
 pub record IdleExit (name : ℕ) (r : Bool) : Type 0 where
   pub unsliced : r ≡ true → (e : Event) → isEnter e ≡ false → e .name ≡ name → Unsliced e
+
+-- what is found from the event i on is what is found at all
+abbrev pub FieldsTo : (text events : List ℕ) → ℕ → Type 0
+FieldsTo text events i = firstBreak (fieldsHold text) i (drop i (eventsOf events)) ≡ firstBreak (fieldsHold text) 0 (eventsOf events)
+
+-- the answers of a pass
+pub record Answers (s : Slicing) (n : Counting) (count : ℕ) (p : Passed) : Type 0 where
+  pub slices : p .slices ≡ placeOf (s .wrong) count
+  pub counts : p .counts ≡ placeOf (n .wrong) count
+  pub uses : p .uses ≡ n .uses
+
+-- the end, where so many are open
+abbrev pub Ends : (depth : ℕ) → Slicing → Counting → (count : ℕ) → Looked → Type 0
+Ends depth s n count (Field i) = ⊥
+Ends depth s n count (Nested i) = (depth ≡ 0 → ⊥) × (i ≡ count)
+Ends depth s n count (Through p) = (depth ≡ 0) × Answers s n count p

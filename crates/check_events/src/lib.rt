@@ -1,9 +1,14 @@
-// The checker's walk for refusals 3, 5 and 6: the fields of all events, their slices and the counts; and whether 7 has anything to look at.
+// The checker's walk for refusals 3 to 6: the fields of all events, how they nest, their slices and the counts; and whether 7 has anything to look at.
 ghost use mathlib.Core.Path.{_≡_};
 ghost use mathlib.Core.Bool.{true, false};
+ghost use lib.ListN.{length};
+ghost use Rattle.nesting.specs.Tag.{tagsOf};
+ghost use Rattle.nesting.specs.Pass.{nestOf};
+ghost use Rattle.nesting.specs.Tables.{Tables};
+ghost use Rattle.nesting.specs.declared.Nesting.the-variants.{At};
 ghost use Rattle.check_slices.specs.Slices.{nothingSeen, withSequence, seenBehind, eventHolds};
 ghost use Rattle.check_slices.specs.Counts.{noneCounted, Few, countedBehind, countHolds};
-ghost use Rattle.check_events.specs.Walk.{Step, placeOf, IdleEnter, IdleExit};
+ghost use Rattle.check_events.specs.Walk.{Step, placeOf, IdleEnter, IdleExit, FieldsTo, Answers, Ends};
 ghost use Rattle.check_events.specs.Looked.{Looks};
 use character_reference::Marker;
 use check_slices::Counts;
@@ -11,6 +16,7 @@ use check_slices::Seen;
 use check_slices::Slices;
 use event::Event;
 use event::EventIndex;
+use nesting::Moved;
 
 // What 5 and 6 say, and whether there may be a link, an image or a call.
 pub struct Passed {
@@ -19,9 +25,10 @@ pub struct Passed {
     pub uses: bool,
 }
 
-// The first event whose fields break a rule; or what the rest of the walk says.
+// The first event whose fields break a rule; else the first at which the list does not nest; else what the rest of the walk says.
 pub enum Looked {
     Field(usize),
+    Nested(usize),
     Through(Passed),
 }
 
@@ -149,7 +156,7 @@ fn answer(wrong: usize, count: usize) -> Slices
 }
 
 fn answers(s: Slicing, n: Counting, count: usize) -> Passed
-    ensures { λ r. ⌜ (r .slices ≡ placeOf (s .wrong) count) × (r .counts ≡ placeOf (n .wrong) count) × (r .uses ≡ n .uses) ⌝ }
+    ensures { λ r. ⌜ Answers s n count r ⌝ }
 {
     Passed {
         slices: answer(s.wrong, count),
@@ -158,20 +165,64 @@ fn answers(s: Slicing, n: Counting, count: usize) -> Passed
     }
 }
 
-// The walk: enters and exits apart, as most are idle.
-pub fn look(text: &[u8], events: &[u8]) -> Looked
+// The list does not nest at this event: that is the answer, unless fields further on break their rules.
+fn unnested(text: &[u8], events: &[u8], at: usize) -> Looked
+    requires { ⌜ (FieldsTo (now text) (now events) at) × (At at ≡ nestOf (tagsOf (now events))) ⌝ }
+    ensures { λ r. ⌜ Looks (now (text .entry)) (now (events .entry)) r ⌝ }
+{
+    let count = event::count(events);
+    let mut later = at;
+    while later < count {
+        if !check_fields::fields_hold(text, Event::read(events, EventIndex(later))) {
+            return Looked::Field(later);
+        }
+        later += 1;
+    }
+    Looked::Nested(at)
+}
+
+// The end of the list: nothing may be open.
+fn ended(depth: usize, s: Slicing, n: Counting, count: usize) -> Looked
+    ensures { λ r. ⌜ Ends depth s n count r ⌝ }
+{
+    if depth != 0 {
+        return Looked::Nested(count);
+    }
+    Looked::Through(answers(s, n, count))
+}
+
+// The walk: enters and exits apart, as most have no rule but those of fields and nesting. `names` and `behind` are lent for what is open.
+fn walk(
+    text: &[u8],
+    events: &[u8],
+    states: &[u8],
+    entries: &[u8],
+    names: &mut [u8],
+    behind: &mut [u8],
+) -> Looked
+    requires { ⌜ Tables (now states) (now entries) ⌝ }
+    requires { ⌜ (length (now names) ≡ 64) × (length (now behind) ≡ 64) ⌝ }
     ensures { λ r. ⌜ Looks (now (text .entry)) (now (events .entry)) r ⌝ }
 {
     let count = event::count(events);
     let mut s = no_slices(count);
     let mut n = no_counts(count);
+    let mut depth: usize = 0;
+    let mut here: u8 = 1;
     let mut i: usize = 0;
     while i < count {
         let e = Event::read(events, EventIndex(i));
         if !check_fields::fields_hold(text, e) {
             return Looked::Field(i);
         }
-        if e.is_enter() {
+        let enters = e.is_enter();
+        let moved = nesting::advance(states, entries, names, behind, depth, here, enters, e.name);
+        let Moved::To(d, h) = moved else {
+            return unnested(text, events, i);
+        };
+        depth = d;
+        here = h;
+        if enters {
             if is_idle_enter(e.name) {
                 i += 1;
                 continue;
@@ -192,5 +243,17 @@ pub fn look(text: &[u8], events: &[u8]) -> Looked
         s = slice_behind(text, e, i, count, s);
         i += 1;
     }
-    Looked::Through(answers(s, n, count))
+    ended(depth, s, n, count)
+}
+
+// What 3 to 6 say of a list, and whether 7 has anything to look at.
+pub fn look(text: &[u8], events: &[u8]) -> Looked
+    ensures { λ r. ⌜ Looks (now (text .entry)) (now (events .entry)) r ⌝ }
+{
+    let tables = nesting::tables();
+    let states = tables.states;
+    let entries = tables.entries;
+    let mut names = [0u8; 64];
+    let mut behind = [0u8; 64];
+    walk(text, events, &states, &entries, &mut names, &mut behind)
 }

@@ -5,12 +5,6 @@ use mathlib.Core.List.{List}
 use Prim.Native.Nat.{ℕ}
 use borrow.Author.Tests.{not-true, not-false}
 use Rattle.utf8.specs.Utf8.{isUtf8}
-use Rattle.nesting.specs.declared.Nesting.{Nesting}
-use Rattle.nesting.specs.declared.Nesting.the-variants as N
-use Rattle.nesting.specs.Tag.{tagsOf}
-use Rattle.nesting.specs.Pass.{nestOf}
-use Rattle.check_fields.specs.declared.Fields.the-variants as F
-use Rattle.check_fields.specs.Fields.{fieldsOf}
 use Rattle.check_slices.specs.declared.Slices.{Slices}
 use Rattle.check_slices.specs.declared.Slices.the-variants as S
 use Rattle.check_slices.specs.Slices.{slicesOf}
@@ -41,36 +35,25 @@ module _ (text events : List ℕ) where
       unfolding checkOf
       from-here k e = e ∙ rw (← p, not-false x h, ← q, not-false y k)
 
-  fields-pass : F.Yes ≡ fieldsOf text events → fromNesting text events ≡ fromFields text events
-  unfolding fromFields
-  fields-pass p = rw (← p)
-
-  fields-fail : (i : ℕ) → F.At i ≡ fieldsOf text events → Field (event i) ≡ fromFields text events
-  unfolding fromFields
-  fields-fail i p = rw (← p)
-
   module _ (x : Looked) (p : Looks text events x) where
     pub looked-field : (i : ℕ) → x ≡ K.Field i → Field (event i) ≡ fromFields text events
-    looked-field i q = fields-fail i (rw q at p)
+    unfolding fromFields
+    looked-field i q = let f : Looks text events (K.Field i) = rw q at p in rw (← f)
+
+    pub looked-nested : (i : ℕ) → x ≡ K.Nested i → Nested (event i) ≡ fromFields text events
+    unfolding fromFields fromNesting
+    looked-nested i q = let f : Looks text events (K.Nested i) = rw q at p in rw (← f .0, ← f .1)
 
     module _ (v : Passed) (q : x ≡ K.Through v) where
       looked : Looks text events (K.Through v)
       looked = rw q at p
 
       pub looked-passes : Passes text events v
-      looked-passes = looked .1
+      looked-passes = looked .2
 
-      pub looked-through : {r : Checked} → r ≡ fromNesting text events → r ≡ fromFields text events
-      looked-through e = e ∙ fields-pass (looked .0)
-
-  module _ (x : Nesting) (p : x ≡ nestOf (tagsOf events)) where
-    pub nesting-pass : {r : Checked} → x ≡ N.Yes → r ≡ fromSlices text events → r ≡ fromNesting text events
-    unfolding fromNesting
-    nesting-pass q e = e ∙ rw (← p, q)
-
-    pub nesting-fail : (i : ℕ) → x ≡ N.At i → Nested (event i) ≡ fromNesting text events
-    unfolding fromNesting
-    nesting-fail i q = rw (← p, q)
+      pub looked-through : {r : Checked} → r ≡ fromSlices text events → r ≡ fromFields text events
+      unfolding fromFields fromNesting
+      looked-through e = e ∙ rw (← looked .0, ← looked .1)
 
   module _ (x : Slices) (p : x ≡ slicesOf text events) where
     pub slices-pass : {r : Checked} → x ≡ S.Yes → r ≡ fromCounts text events → r ≡ fromSlices text events

@@ -1,7 +1,7 @@
 // The checker: whether a list of events and its text meet 01's rules, refusals 1 to 7 in the order of their numbers.
 ghost use mathlib.Core.Path.{_≡_};
 ghost use Rattle.check_events.specs.Looked.{Passes};
-ghost use Rattle.checker.specs.Checked.{sizesHold, checkOf, fromFields, fromNesting, fromSlices, fromCounts, fromLabels, numberOf, placeOf};
+ghost use Rattle.checker.specs.Checked.{sizesHold, checkOf, fromFields, fromSlices, fromCounts, fromLabels, numberOf, placeOf};
 use check_events::Passed;
 use check_slices::Slices;
 use event::EventIndex;
@@ -76,24 +76,14 @@ fn sizes_hold(text: &[u8], events: &[u8]) -> bool
     (text.len() <= MOST_TEXT) & (events.len() <= MOST_EVENTS) & (events.len() % 20 == 0)
 }
 
-// From 3 on.
+// From 3 on: one walk answers for 3 to 6.
 fn from_fields(text: &[u8], events: &[u8]) -> Checked
     ensures { λ r. ⌜ r ≡ fromFields (now (text .entry)) (now (events .entry)) ⌝ }
 {
     match check_events::look(text, events) {
         check_events::Looked::Field(i) => Checked::Field(EventIndex(i)),
-        check_events::Looked::Through(p) => from_nesting(text, events, p),
-    }
-}
-
-// From 4 on.
-fn from_nesting(text: &[u8], events: &[u8], p: Passed) -> Checked
-    requires { ⌜ Passes (now text) (now events) p ⌝ }
-    ensures { λ r. ⌜ r ≡ fromNesting (now (text .entry)) (now (events .entry)) ⌝ }
-{
-    match nesting::nest(events) {
-        nesting::Nesting::Yes => from_slices(text, events, p),
-        nesting::Nesting::At(i) => Checked::Nested(EventIndex(i)),
+        check_events::Looked::Nested(i) => Checked::Nested(EventIndex(i)),
+        check_events::Looked::Through(p) => from_slices(text, events, p),
     }
 }
 

@@ -9,3 +9,4 @@ pub mod Passes
 pub mod Grows
 pub mod Fault
 pub mod Ahead
+pub mod Arrays

@@ -3,3 +3,4 @@ pub mod Tag
 pub mod Nests
 pub mod Pass
 pub mod Tables
+pub mod Moved

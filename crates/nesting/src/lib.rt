@@ -1,10 +1,12 @@
-// The pass for 4: whether a list of events nests by 01's rules, or the event at which it does not.
+// The steps for 4, which a walk over the events takes: whether a list nests by 01's rules, or the event at which it does not.
 ghost use mathlib.Core.Path.{_≡_};
-ghost use Prim.Native.Nat.{_≤_, _<_};
-ghost use Rattle.nesting.specs.Tag.{tagsOf};
-ghost use Rattle.nesting.specs.Pass.{turn, leave, nestOf};
+ghost use Prim.Native.Nat.{_-_, _≤_, _<_};
+ghost use lib.ListN.{length, getD};
+ghost use Rattle.nesting.specs.Pass.{turn, leave};
 ghost use Rattle.nesting.specs.Tables.{States, Tables, state, placeOf, Enters, Leaves};
+ghost use Rattle.nesting.specs.Moved.{Opens, Closes, Advances};
 
+// What 4 says of a list: yes, or the place.
 pub enum Nesting {
     Yes,
     At(usize),
@@ -20,6 +22,12 @@ enum Entry {
 enum Exit {
     Stays,
     To(u8),
+}
+
+// A list does not nest here, or goes on: how many are open then, and the state.
+pub enum Moved {
+    Refused,
+    To(usize, u8),
 }
 
 // tools/nesting_tables.py writes the tables. 2 bytes to a state: its place among the entries, and 1 where nothing more has to come.
@@ -51,58 +59,19 @@ const ENTRIES: [u8; 315] = *b"\
     \xff\x00\x00\xff\x00\x00\xff\x00\x00\xff\x00\x00\xff\x00\x00\xff\x00\x00\xff\x00\x00\
 ";
 
-// What 4 says of a list: yes, or its place. A rest shorter than a record is ignored.
-pub fn nest(events: &[u8]) -> Nesting
-    ensures { λ r. ⌜ r ≡ nestOf (tagsOf (now (events .entry))) ⌝ }
-{
-    let states = STATES;
-    let entries = ENTRIES;
-    walk(events, &states, &entries)
+// Both tables, to be lent: a `const` would be built anew at each use.
+pub struct Lookup {
+    pub states: [u8; 96],
+    pub entries: [u8; 315],
 }
 
-// The tables are lent: a `const` would be built anew at each use.
-fn walk(events: &[u8], states: &[u8], entries: &[u8]) -> Nesting
-    requires { ⌜ Tables (now states) (now entries) ⌝ }
-    ensures { λ r. ⌜ r ≡ nestOf (tagsOf (now (events .entry))) ⌝ }
+pub fn tables() -> Lookup
+    ensures { λ r. ⌜ Tables (r .states) (r .entries) ⌝ }
 {
-    let n = events.len() / 20;
-    let mut names = [0u8; 64];
-    let mut behind = [0u8; 64];
-    let mut depth: usize = 0;
-    let mut here: u8 = 1;
-    let mut i: usize = 0;
-    while i < n {
-        let name = events[i * 20 + 1];
-        if events[i * 20] == 0 {
-            if depth == 64 {
-                return Nesting::At(i);
-            }
-            let entry = enter(states, entries, here, name);
-            let Entry::Into(inside, after) = entry else {
-                return Nesting::At(i);
-            };
-            names[depth] = name;
-            behind[depth] = after;
-            depth += 1;
-            here = inside;
-            i += 1;
-            continue;
-        }
-        if depth == 0 {
-            return Nesting::At(i);
-        }
-        depth -= 1;
-        let exit = leave(states, here, name, names[depth], behind[depth]);
-        let Exit::To(next) = exit else {
-            return Nesting::At(i);
-        };
-        here = next;
-        i += 1;
+    Lookup {
+        states: STATES,
+        entries: ENTRIES,
     }
-    if depth == 0 {
-        return Nesting::Yes;
-    }
-    Nesting::At(n)
 }
 
 // 0 to 4 may stand anywhere but in 3 and 4, where the state is 0.
@@ -156,4 +125,68 @@ fn leave(states: &[u8], here: u8, name: u8, opened: u8, behind: u8) -> Exit
         return Exit::Stays;
     }
     Exit::To(behind)
+}
+
+// An enter or an exit: `names` and `behind` hold what is open, `here` is the state.
+pub fn advance(
+    states: &[u8],
+    entries: &[u8],
+    names: &mut [u8],
+    behind: &mut [u8],
+    depth: usize,
+    here: u8,
+    enters: bool,
+    name: u8,
+) -> Moved
+    requires { ⌜ Tables (now states) (now entries) ⌝ }
+    requires { ⌜ (here < 48) × (depth ≤ 64) × (length (now names) ≡ 64) × (length (now behind) ≡ 64) × ((depth ≡ 0 → ⊥) → getD (now behind) (depth - 1) 0 < 48) ⌝ }
+    ensures { λ r. ⌜ Advances enters (now (names .entry)) (now (behind .entry)) depth here name r (now (names .exit)) (now (behind .exit)) ⌝ }
+{
+    if enters {
+        return open(states, entries, names, behind, depth, here, name);
+    }
+    close(states, names, behind, depth, here, name)
+}
+
+// At most 64 are open.
+fn open(
+    states: &[u8],
+    entries: &[u8],
+    names: &mut [u8],
+    behind: &mut [u8],
+    depth: usize,
+    here: u8,
+    name: u8,
+) -> Moved
+    requires { ⌜ Tables (now states) (now entries) ⌝ }
+    requires { ⌜ (here < 48) × (depth ≤ 64) × (length (now names) ≡ 64) × (length (now behind) ≡ 64) ⌝ }
+    ensures { λ r. ⌜ Opens (now (names .entry)) (now (behind .entry)) depth here name r (now (names .exit)) (now (behind .exit)) ⌝ }
+{
+    if depth == 64 {
+        return Moved::Refused;
+    }
+    let entry = enter(states, entries, here, name);
+    let Entry::Into(inside, after) = entry else {
+        return Moved::Refused;
+    };
+    names[depth] = name;
+    behind[depth] = after;
+    Moved::To(depth + 1, inside)
+}
+
+// The newest open element is left, if one is open.
+fn close(states: &[u8], names: &[u8], behind: &[u8], depth: usize, here: u8, name: u8) -> Moved
+    requires { ⌜ States (now states) ⌝ }
+    requires { ⌜ (here < 48) × (depth ≤ 64) × (length (now names) ≡ 64) × (length (now behind) ≡ 64) × ((depth ≡ 0 → ⊥) → getD (now behind) (depth - 1) 0 < 48) ⌝ }
+    ensures { λ r. ⌜ Closes (now (names .entry)) (now (behind .entry)) depth here name r ⌝ }
+{
+    if depth == 0 {
+        return Moved::Refused;
+    }
+    let at = depth - 1;
+    let exit = leave(states, here, name, names[at], behind[at]);
+    let Exit::To(next) = exit else {
+        return Moved::Refused;
+    };
+    Moved::To(at, next)
 }
