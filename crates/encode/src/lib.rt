@@ -27,7 +27,7 @@ fn put_block(value: &[u8], i: usize, encode_html: bool, out: &mut [u8], at: usiz
     if has_special(value, i, encode_html) {
         return put_bytes(&value[i..i + 16], encode_html, out, at);
     }
-    lent::put_all(out, at, &value[i..i + 16])
+    lent::put_sixteen(out, at, &value[i..i + 16])
 }
 
 fn put_bytes(value: &[u8], encode_html: bool, out: &mut [u8], at: usize) -> usize

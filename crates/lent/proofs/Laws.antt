@@ -249,3 +249,14 @@ pub clear-end : (d₀ d : List ℕ) (i₀ i : ℕ) → length d ≤ i → take i
 clear-end d₀ d i₀ i h p =
     let e : length d - i ≡ 0 = omega arith in
     sym (append-nil d) ∙ (rw (take-all i d h, e) at p)
+
+-- ---- a block that is copied before it is written
+
+fill-all : (b s : List ℕ) (n : ℕ) → length b ≡ n → length s ≡ n → fill b 0 (take n s) ≡ s
+unfolding fill
+fill-all b s n p q =
+    let e : length s ≡ length b = omega arith in
+    rw (take-all n s (omega arith)) (take-at s (drop (0 + length s) b) (length b) e)
+
+pub moved : {d e f s : List ℕ} {at r n : ℕ} (b : List ℕ) → length b ≡ n → length s ≡ n → e ≡ fill b 0 (take n s) → Filled d at e f r → Filled d at s f r
+moved {s = s} {n = n} b p q x h = same (sym (x ∙ fill-all b s n p q)) h

@@ -37,6 +37,18 @@ pub fn put_all(out: &mut [u8], at: usize, s: &[u8]) -> usize
     out.len() + 1
 }
 
+// Sixteen bytes, all of them read before one is written, so that they are moved at once; of another length, as `put_all`.
+pub fn put_sixteen(out: &mut [u8], at: usize, s: &[u8]) -> usize
+    ensures { λ r. ⌜ Filled (now (out .entry)) at (now (s .entry)) (now (out .exit)) r ⌝ }
+{
+    if s.len() != 16 {
+        return put_all(out, at, s);
+    }
+    let mut block = [0u8; 16];
+    copy(&mut block, 0, s, 16);
+    put_all(out, at, &block)
+}
+
 // The first n bytes of `s`, which fit.
 fn copy(out: &mut [u8], at: usize, s: &[u8], n: usize)
     requires { ⌜ (n ≤ length (now s)) × (at + n ≤ length (now out)) ⌝ }

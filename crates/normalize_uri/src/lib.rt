@@ -37,7 +37,7 @@ fn put_block(value: &[u8], i: usize, encode_html: bool, out: &mut [u8], at: usiz
     if has_unsafe(value, i) {
         return put_part(value, i, i + 16, encode_html, out, at);
     }
-    lent::put_all(out, at, &value[i..i + 16])
+    lent::put_sixteen(out, at, &value[i..i + 16])
 }
 
 // The bytes from `from` to `to`, one by one: a `%` looks at what follows it in the whole URL.

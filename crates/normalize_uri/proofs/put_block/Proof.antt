@@ -20,20 +20,20 @@ same-length c = search needs
 returns : tie.Need-returns
 returns c = search (same, part-block)
 
-add-put-all : tie.Need-add-put-all
-add-put-all c = search needs
+add-put-sixteen : tie.Need-add-put-sixteen
+add-put-sixteen c = search needs
 
-sub-put-all : tie.Need-sub-put-all
-sub-put-all c = search needs
+sub-put-sixteen : tie.Need-sub-put-sixteen
+sub-put-sixteen c = search needs
 
-part-put-all-start : tie.Need-part-put-all-start
-part-put-all-start c = search needs
+part-put-sixteen-start : tie.Need-part-put-sixteen-start
+part-put-sixteen-start c = search needs
 
-part-put-all-end : tie.Need-part-put-all-end
-part-put-all-end c = search needs
+part-put-sixteen-end : tie.Need-part-put-sixteen-end
+part-put-sixteen-end c = search needs
 
-put-all-requires : tie.Need-put-all-requires
-put-all-requires c κs = search needs
+put-sixteen-requires : tie.Need-put-sixteen-requires
+put-sixteen-requires c κs = search needs
 
 same-length-2 : tie.Need-same-length-2
 same-length-2 c = search needs
@@ -50,10 +50,10 @@ put-block-spec =
     put-part-requires
     same-length
     returns
-    add-put-all
-    sub-put-all
-    part-put-all-start
-    part-put-all-end
-    put-all-requires
+    add-put-sixteen
+    sub-put-sixteen
+    part-put-sixteen-start
+    part-put-sixteen-end
+    put-sixteen-requires
     same-length-2
     returns-2)
