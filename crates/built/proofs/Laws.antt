@@ -39,5 +39,5 @@ enough text events work p q = passed text events (length work) (sym p ∙ q) .0
 pub wiped : (d : List ℕ) → clearedFrom 0 d ≡ zeros (length d)
 wiped d = let y : length d - 0 ≡ length d = omega arith in rw y
 
-pub clears : {from : ℕ} {out work out′ work′ : List ℕ} → out′ ≡ clearedFrom from out → work′ ≡ clearedFrom 0 work → Clears from out work out′ work′
-clears {work = work} p q = record { bytes = p; cleared = q ∙ wiped work }
+pub clears : {from : ℕ} {out work out′ work′ : List ℕ} → out′ ≡ clearedFrom from out → work′ ≡ zeros (length work) → Clears from out work out′ work′
+clears p q = record { bytes = p; cleared = q }

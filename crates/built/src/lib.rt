@@ -71,5 +71,5 @@ fn clear(out: &mut [u8], from: usize, work: &mut [u8])
     ensures { λ _. ⌜ Clears from (now (out .entry)) (now (work .entry)) (now (out .exit)) (now (work .exit)) ⌝ }
 {
     lent::clear(out, from);
-    lent::clear(work, 0);
+    wipe::wipe(work);
 }

@@ -7,8 +7,8 @@ use Rattle.built.proofs.clear.Tie as tie
 clear-requires : tie.Need-clear-requires
 clear-requires c κs = search needs
 
-clear-requires-2 : tie.Need-clear-requires-2
-clear-requires-2 c κs = search needs
+wipe-requires : tie.Need-wipe-requires
+wipe-requires c κs = search needs
 
 same-length : tie.Need-same-length
 same-length c = search needs
@@ -20,4 +20,4 @@ returns : tie.Need-returns
 returns c = search clears
 
 pub clear-spec : {M : Type 1} → statement M
-clear-spec = tie.close (tie.spec clear-requires clear-requires-2 same-length same-length-2 returns)
+clear-spec = tie.close (tie.spec clear-requires wipe-requires same-length same-length-2 returns)
