@@ -6,7 +6,6 @@ use native.Mathlib.Omega.{arith}
 use denote.Enum.Declared.{tagOf}
 use types.Run.{OneOf, miss}
 use lib.ListN.{length, take, length-take}
-use Rattle.event.specs.declared.EventIndex.{EventIndex}
 use Rattle.event.specs.Event.{eventsOf}
 use Rattle.rules.proofs.Meets.{yes-meets}
 use Rattle.checker.specs.declared.Checked.{Checked}
@@ -17,14 +16,14 @@ use Rattle.machine.specs.declared.Options.{Options}
 use Rattle.machine.specs.Run.{runOf}
 use Rattle.never.proofs.Whole.{ending-goes, turns-go}
 use Rattle.to_html.specs.Renders.{Runs, Answers, Renders}
-use Rattle.to_html.specs.declared.Rendered.{Rendered}
-use Rattle.to_html.specs.declared.Rendered.the-variants as R
+use Rattle.built.specs.declared.Rendered.{Rendered}
+use Rattle.built.specs.declared.Rendered.the-variants as R
+use Rattle.built.specs.Rendered.{builtOf, keptOf}
 use Rattle.built.specs.declared.Built.{Built}
-use Rattle.built.specs.declared.Built.the-variants.{Page, Refused, WorkFull, PageFull}
+use Rattle.built.specs.declared.Built.the-variants.{Refused}
 use Rattle.built.specs.Built.{checkedOf, clearedFrom, Leaves}
 use Rattle.built.proofs.Laws.{passed, wiped}
 use Rattle.build.specs.Build.{Ends, Builds}
-use Rattle.build.specs.Private.{builtOf, keptOf}
 use Rattle.build.proofs.Limits.{no-limit}
 
 -- on a checked note the run goes through all events, within the code's tables
@@ -51,16 +50,6 @@ refused {text} {events} {out} {work} {out′} {o = o} {c} p h f =
     }
 
 -- ---- the run's answer
-
-module _ {r : Rendered} {s : Built} {out work out′ work′ : List ℕ} where
-  pub with-page : (n : ℕ) → r ≡ R.Page n → Leaves (Page n) n out work out′ work′ s → Leaves (builtOf r) (keptOf r) out work out′ work′ s
-  with-page n e f = rw e f
-
-  pub no-work : (i : EventIndex) → r ≡ R.WorkFull i → Leaves (WorkFull i) 0 out work out′ work′ s → Leaves (builtOf r) (keptOf r) out work out′ work′ s
-  no-work i e f = rw e f
-
-  pub no-room : (i : EventIndex) → r ≡ R.PageFull i → Leaves (PageFull i) 0 out work out′ work′ s → Leaves (builtOf r) (keptOf r) out work out′ work′ s
-  no-room i e f = rw e f
 
 -- what was rendered, with all cleared that is not page
 module _ (text events out out₁ : List ℕ) (o : Options) (work : ℕ) (y : checkedOf text events work ≡ Yes) (l : length out₁ ≡ length out) where

@@ -1,15 +1,13 @@
 // The page of a checked note: refusals 1 to 7 by the checker, 8 and 9 by the run, and every lent byte afterwards.
 ghost use Prim.Native.Nat.{_≤_};
 ghost use lib.ListN.{length};
-ghost use Rattle.built.specs.Built.{Leaves};
 ghost use Rattle.build.specs.Build.{Builds};
-ghost use Rattle.build.specs.Private.{builtOf, keptOf};
 ghost use Rattle.to_html.specs.Renders.{Renders};
 use built::Built;
 use built::LEAST_WORK;
+use built::Rendered;
 use checker::Checked;
 use machine::Options;
-use to_html::Rendered;
 
 // Checks a note and writes its page into the output. Demands nothing: what is wrong is refused by its number.
 pub fn build(text: &[u8], events: &[u8], options: Options, out: &mut [u8], work: &mut [u8]) -> Built
@@ -20,7 +18,7 @@ pub fn build(text: &[u8], events: &[u8], options: Options, out: &mut [u8], work:
         return built::refuse(Built::Refused(checked), out, work);
     };
     let rendered = render(text, events, options, out, work);
-    finish(rendered, out, work)
+    built::finish(rendered, out, work)
 }
 
 // The run is lent as many work bytes as it needs.
@@ -29,15 +27,4 @@ fn render(text: &[u8], events: &[u8], options: Options, out: &mut [u8], work: &m
     ensures { λ r. ⌜ Renders (now (text .entry)) (now (events .entry)) options (now (out .entry)) (now (out .exit)) r ⌝ }
 {
     to_html::to_html(text, events, options, out, &mut work[0..LEAST_WORK])
-}
-
-// Each answer of the run, with what it leaves in the buffers.
-fn finish(r: Rendered, out: &mut [u8], work: &mut [u8]) -> Built
-    ensures { λ b. ⌜ Leaves (builtOf r) (keptOf r) (now (out .entry)) (now (work .entry)) (now (out .exit)) (now (work .exit)) b ⌝ }
-{
-    match r {
-        Rendered::Page(length) => built::page(length, out, work),
-        Rendered::WorkFull(i) => built::refuse(Built::WorkFull(i), out, work),
-        Rendered::PageFull(i) => built::refuse(Built::PageFull(i), out, work),
-    }
 }

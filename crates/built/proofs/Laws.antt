@@ -12,7 +12,13 @@ use Rattle.lent.specs.Fill.{zeros}
 use Rattle.checker.specs.declared.Checked.{Checked}
 use Rattle.checker.specs.declared.Checked.the-variants.{Yes, WrongLength}
 use Rattle.checker.specs.Checked.{checkOf}
-use Rattle.built.specs.Built.{checkedOf, clearedFrom}
+use Rattle.event.specs.declared.EventIndex.{EventIndex}
+use Rattle.built.specs.declared.Rendered.{Rendered}
+use Rattle.built.specs.declared.Rendered.the-variants as R
+use Rattle.built.specs.declared.Built.{Built}
+use Rattle.built.specs.declared.Built.the-variants.{Page, WorkFull, PageFull}
+use Rattle.built.specs.Built.{checkedOf, clearedFrom, Leaves}
+use Rattle.built.specs.Rendered.{builtOf, keptOf}
 use Rattle.built.specs.Private.{Clears}
 
 -- ---- refusals 1 to 7
@@ -41,3 +47,15 @@ wiped d = let y : length d - 0 ≡ length d = omega arith in rw y
 
 pub clears : {from : ℕ} {out work out′ work′ : List ℕ} → out′ ≡ clearedFrom from out → work′ ≡ zeros (length work) → Clears from out work out′ work′
 clears p q = record { bytes = p; cleared = q }
+
+-- ---- the run's answer
+
+module _ {r : Rendered} {s : Built} {out work out′ work′ : List ℕ} where
+  pub with-page : (n : ℕ) → r ≡ R.Page n → Leaves (Page n) n out work out′ work′ s → Leaves (builtOf r) (keptOf r) out work out′ work′ s
+  with-page n e f = rw e f
+
+  pub no-work : (i : EventIndex) → r ≡ R.WorkFull i → Leaves (WorkFull i) 0 out work out′ work′ s → Leaves (builtOf r) (keptOf r) out work out′ work′ s
+  no-work i e f = rw e f
+
+  pub no-room : (i : EventIndex) → r ≡ R.PageFull i → Leaves (PageFull i) 0 out work out′ work′ s → Leaves (builtOf r) (keptOf r) out work out′ work′ s
+  no-room i e f = rw e f

@@ -1,6 +1,7 @@
 // A build's answer: 01's number for it, refusals 1 to 7, and every lent byte once the answer is known. The run is in `build`.
 ghost use mathlib.Core.Path.{_≡_};
 ghost use Rattle.built.specs.Built.{numberOf, valueOf, checkedOf, Leaves};
+ghost use Rattle.built.specs.Rendered.{builtOf, keptOf};
 ghost use Rattle.built.specs.Private.{Clears};
 use checker::Checked;
 use event::EventIndex;
@@ -9,6 +10,13 @@ use event::EventIndex;
 pub enum Built {
     Page(usize),
     Refused(Checked),
+    WorkFull(EventIndex),
+    PageFull(EventIndex),
+}
+
+// What a run comes to: a page's length, or the event after which the work bytes or the output have no room; in the footnote section, the count of events.
+pub enum Rendered {
+    Page(usize),
     WorkFull(EventIndex),
     PageFull(EventIndex),
 }
@@ -51,7 +59,7 @@ pub fn check(text: &[u8], events: &[u8], work: usize) -> Checked
 }
 
 // A page of this length stays, and nothing behind it.
-pub fn page(size: usize, out: &mut [u8], work: &mut [u8]) -> Built
+fn page(size: usize, out: &mut [u8], work: &mut [u8]) -> Built
     ensures { λ r. ⌜ Leaves (Built.Page size) size (now (out .entry)) (now (work .entry)) (now (out .exit)) (now (work .exit)) r ⌝ }
 {
     clear(out, size, work);
@@ -64,6 +72,17 @@ pub fn refuse(b: Built, out: &mut [u8], work: &mut [u8]) -> Built
 {
     clear(out, 0, work);
     b
+}
+
+// Each answer of the run, with what it leaves in the buffers.
+pub fn finish(r: Rendered, out: &mut [u8], work: &mut [u8]) -> Built
+    ensures { λ b. ⌜ Leaves (builtOf r) (keptOf r) (now (out .entry)) (now (work .entry)) (now (out .exit)) (now (work .exit)) b ⌝ }
+{
+    match r {
+        Rendered::Page(length) => page(length, out, work),
+        Rendered::WorkFull(i) => refuse(Built::WorkFull(i), out, work),
+        Rendered::PageFull(i) => refuse(Built::PageFull(i), out, work),
+    }
 }
 
 // Zeros from a place of the output on, and in every work byte.

@@ -26,8 +26,8 @@ use Rattle.whole.specs.Whole.{World}
 use Rattle.turns.specs.Passing.{turnsLeft}
 use Rattle.passes.specs.declared.Passed.{Passed}
 use Rattle.passes.specs.declared.Passed.the-variants.{On, Over}
-use Rattle.to_html.specs.declared.Rendered.{Rendered}
-use Rattle.to_html.specs.declared.Rendered.the-variants.{WorkFull, PageFull}
+use Rattle.built.specs.declared.Rendered.{Rendered}
+use Rattle.built.specs.declared.Rendered.the-variants.{WorkFull, PageFull}
 use Rattle.ahead.specs.Reach.{run, Stands}
 use Rattle.passes.specs.Passing.{Passes}
 use Rattle.to_html.specs.Renders.{Answers, Renders}

@@ -17,8 +17,8 @@ use Rattle.buffers.specs.Stand.{Holds}
 use Rattle.section.specs.Contracts.{WritesSection}
 use Rattle.whole.specs.declared.Whole.{Whole}
 use Rattle.whole.specs.Whole.{World}
-use Rattle.to_html.specs.declared.Rendered.{Rendered}
-use Rattle.to_html.specs.declared.Rendered.the-variants.{Page, PageFull}
+use Rattle.built.specs.declared.Rendered.{Rendered}
+use Rattle.built.specs.declared.Rendered.the-variants.{Page, PageFull}
 use Rattle.ahead.specs.Reach.{Stands}
 use Rattle.to_html.specs.Renders.{Answers}
 use Rattle.to_html.specs.Private.{Last, Finishes}

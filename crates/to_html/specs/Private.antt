@@ -23,8 +23,8 @@ use Rattle.whole.specs.declared.Whole.{Whole}
 use Rattle.whole.specs.Whole.{World, Built}
 use Rattle.turns.specs.Passing.{turnsLeft}
 use Rattle.ahead.specs.Reach.{run, Stands}
-use Rattle.to_html.specs.declared.Rendered.{Rendered}
-use Rattle.to_html.specs.declared.Rendered.the-variants.{WorkFull, PageFull}
+use Rattle.built.specs.declared.Rendered.{Rendered}
+use Rattle.built.specs.declared.Rendered.the-variants.{WorkFull, PageFull}
 use Rattle.to_html.specs.Renders.{Answers}
 
 abbrev pub noMedia : Links

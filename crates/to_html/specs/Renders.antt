@@ -12,8 +12,8 @@ use Rattle.machine.specs.Run.{Answer, page, refused, endingOf, turnsOf, runOf}
 use Rattle.bounded.specs.Within.{Goes}
 use Rattle.clean.specs.Clean.{Clean}
 use Rattle.clean.specs.Section.{Called}
-use Rattle.to_html.specs.declared.Rendered.{Rendered}
-use Rattle.to_html.specs.declared.Rendered.the-variants.{Page, WorkFull, PageFull}
+use Rattle.built.specs.declared.Rendered.{Rendered}
+use Rattle.built.specs.declared.Rendered.the-variants.{Page, WorkFull, PageFull}
 
 -- the machine goes through all turns within the code's tables, and each call has its footnote
 pub record Runs (text events : List ℕ) (o : Options) : Type 0 where

@@ -6,6 +6,7 @@ ghost use Rattle.kept.specs.Kept.{tables};
 ghost use Rattle.turns.specs.Loud.{world};
 ghost use Rattle.to_html.specs.Renders.{Renders};
 ghost use Rattle.to_html.specs.Private.{noMedia, Begun, Finishes, FinishesAll, overOf};
+use built::Rendered;
 use event::EventIndex;
 use kept::Kept;
 use links::Destination;
@@ -18,13 +19,6 @@ use machine::Options;
 use passes::Passed;
 use tight::Tight;
 use whole::Whole;
-
-// A page's length, or the event after which the work bytes or the output have no room; in the footnote section, the count of events.
-pub enum Rendered {
-    Page(usize),
-    WorkFull(EventIndex),
-    PageFull(EventIndex),
-}
 
 fn no_media() -> Links
     ensures { λ r. ⌜ r ≡ noMedia ⌝ }

@@ -1,8 +1,8 @@
 -- Each answer of the run. Assumes nothing.
-use Rattle.build.proofs.Laws.{with-page, no-work, no-room}
+use Rattle.built.proofs.Laws.{with-page, no-work, no-room}
 use borrow.Author.Needs.{needs}
-use Rattle.build.proofs.finish.Statement.{statement}
-use Rattle.build.proofs.finish.Tie as tie
+use Rattle.built.proofs.finish.Statement.{statement}
+use Rattle.built.proofs.finish.Tie as tie
 
 enum-known-r : tie.Need-enum-known-r
 enum-known-r c = search needs
