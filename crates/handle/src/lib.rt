@@ -1,6 +1,6 @@
 // The event at an index goes to its handler: by whether that concerns the context alone, by enter or exit, and by its name.
 ghost use Prim.Native.Nat.{_/_, _<_};
-ghost use mathlib.Core.Bool.{true, false, not};
+ghost use mathlib.Core.Bool.{false, not};
 ghost use mathlib.Core.Path.{_≡_};
 ghost use lib.ListN.{length};
 ghost use Rattle.event.specs.Event.{isEnter};
@@ -25,25 +25,7 @@ pub fn is_whole(e: Event) -> bool
     exits_whole::is_whole(e.name)
 }
 
-// An enter that concerns the context alone. The rest of the state is not even passed: what is passed is copied.
-pub fn handle_enter(
-    c: Context,
-    text: &[u8],
-    events: &[u8],
-    i: EventIndex,
-    e: Event,
-    options: Options,
-    captures: &mut [u8],
-    starts: &mut [usize],
-    out: &mut [u8],
-) -> Context
-    requires { ⌜ isEnter e ≡ true ⌝ }
-    ensures { λ r. ⌜ Quietly (now (text .entry)) (now (events .entry)) options (i .0) e c (now (captures .entry)) (now (starts .entry)) (now (out .entry)) r (now (captures .exit)) (now (starts .exit)) (now (out .exit)) ⌝ }
-{
-    enters::on_enter(c, e, options.allow_dangerous_html, captures, starts, out)
-}
-
-// Such an exit. It stands apart so that the pass, into which the compiler puts both, need not copy the context.
+// An exit that concerns the context alone, as `enters::on_enter` does for enters. The rest of the state is not even passed: what is passed is copied.
 pub fn handle_exit(
     c: Context,
     text: &[u8],

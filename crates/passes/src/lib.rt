@@ -71,17 +71,8 @@ pub fn pass(
         let c = r.context;
         let captures = &mut work[0..16384];
         if e.is_enter() {
-            r.context = handle::handle_enter(
-                c,
-                text,
-                events,
-                at,
-                e,
-                options,
-                captures,
-                starts,
-                out,
-            );
+            let html = options.allow_dangerous_html;
+            r.context = enters::on_enter(c, e, html, captures, starts, out);
             number = room::lack(r, out.len());
             continue;
         }

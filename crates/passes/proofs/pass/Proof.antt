@@ -6,7 +6,7 @@ use lib.ListN.{length}
 use borrow.Author.Needs.{needs}
 use Rattle.kept.specs.Kept.{tables}
 use Rattle.turns.specs.Loud.{world}
-use Rattle.handle.proofs.Laws.{turned-quietly, turned-wholly}
+use Rattle.handle.proofs.Laws.{quiet-enter, turned-quietly, turned-wholly}
 use Rattle.passes.specs.Private.{Stays}
 use Rattle.passes.proofs.Loop.{lent-long, lent-same, stays-start, all-steps, stays}
 use Rattle.passes.proofs.pass.Statement.{statement}
@@ -103,8 +103,8 @@ part-captures-end c = search needs
 is-enter-requires : tie.Need-is-enter-requires Inv-loop μ-loop
 is-enter-requires c κs = search needs
 
-handle-enter-requires : tie.Need-handle-enter-requires Inv-loop μ-loop
-handle-enter-requires c κs = sym (c .before .before .before .is-enter .ensures) ∙ c .before .before .if3 .taken
+on-enter-requires : tie.Need-on-enter-requires Inv-loop μ-loop
+on-enter-requires c κs = search needs
 
 lack-requires-2 : tie.Need-lack-requires-2 Inv-loop μ-loop
 lack-requires-2 c κs = search needs
@@ -117,18 +117,18 @@ loop-again-2 c =
     let call = c .before .before .before .before .before .before .before in
     let next = call .before .before .before .before .before .before .before .before .before .before .before .before in
     let inv = next .before .before .loop .inv in
-    let captures = call .handle-enter .last .1 .1 .1 .1 .1 .1 .0 in
+    let captures = call .on-enter .last .1 .1 .1 .0 in
     let work = next .before .before .loop .work in (
       inv .0,
-      lent-long captures work (omega (arith, call .handle-enter .kept)) (inv .1),
-      lent-same captures work (omega (arith, call .handle-enter .kept)) (inv .1) (inv .2),
-      omega (arith, call .handle-enter .kept, inv),
-      omega (arith, call .handle-enter .kept, inv),
-      omega (arith, call .handle-enter .kept, inv),
-      omega (arith, call .handle-enter .kept, inv),
-      omega (arith, call .handle-enter .kept, inv),
-      omega (arith, call .handle-enter .kept, inv),
-      stays (omega (arith, call .before .before .before .before .before .before .before .before .before .before .before .if1 .left, inv .0)) (next .ahead .ensures .walks .goes (inv .9 .on (next .before .loop-test .taken))) (call .before .before .before .before .before .before .before .before .before .before .stays-inside .ensures) (next .ahead .ensures .here (omega (arith, call .before .before .before .before .before .before .before .before .before .before .before .if1 .left, inv .0))) (turned-quietly (call .before .before .before .before .before .before .before .before .before .read .ensures) (call .before .before .before .before .before .before .before .before .is-whole .ensures) (call .before .before .before .before .before .before .before .if2 .left) (call .handle-enter .ensures) (omega (arith, call .handle-enter .kept)) (omega (arith, call .handle-enter .kept))) (omega (arith, call .handle-enter .kept)) (c .lack2 .ensures),
+      lent-long captures work (omega (arith, call .on-enter .kept)) (inv .1),
+      lent-same captures work (omega (arith, call .on-enter .kept)) (inv .1) (inv .2),
+      omega (arith, call .on-enter .kept, inv),
+      omega (arith, call .on-enter .kept, inv),
+      omega (arith, call .on-enter .kept, inv),
+      omega (arith, call .on-enter .kept, inv),
+      omega (arith, call .on-enter .kept, inv),
+      omega (arith, call .on-enter .kept, inv),
+      stays (omega (arith, call .before .before .before .before .before .before .before .before .before .before .before .if1 .left, inv .0)) (next .ahead .ensures .walks .goes (inv .9 .on (next .before .loop-test .taken))) (call .before .before .before .before .before .before .before .before .before .before .stays-inside .ensures) (next .ahead .ensures .here (omega (arith, call .before .before .before .before .before .before .before .before .before .before .before .if1 .left, inv .0))) (turned-quietly (call .before .before .before .before .before .before .before .before .before .read .ensures) (call .before .before .before .before .before .before .before .before .is-whole .ensures) (call .before .before .before .before .before .before .before .if2 .left) (quiet-enter (sym (call .before .before .before .before .is-enter .ensures) ∙ call .before .before .before .if3 .taken) (call .on-enter .ensures)) (omega (arith, call .on-enter .kept)) (omega (arith, call .on-enter .kept))) (omega (arith, call .on-enter .kept)) (c .lack2 .ensures),
     )
 
 handle-exit-requires : tie.Need-handle-exit-requires Inv-loop μ-loop
@@ -159,8 +159,8 @@ loop-again-3 c =
       stays (omega (arith, call .before .before .before .before .before .before .before .before .before .before .before .if1 .left, inv .0)) (next .ahead .ensures .walks .goes (inv .9 .on (next .before .loop-test .taken))) (call .before .before .before .before .before .before .before .before .before .before .stays-inside .ensures) (next .ahead .ensures .here (omega (arith, call .before .before .before .before .before .before .before .before .before .before .before .if1 .left, inv .0))) (turned-quietly (call .before .before .before .before .before .before .before .before .before .read .ensures) (call .before .before .before .before .before .before .before .before .is-whole .ensures) (call .before .before .before .before .before .before .before .if2 .left) (call .handle-exit .ensures) (omega (arith, call .handle-exit .kept)) (omega (arith, call .handle-exit .kept))) (omega (arith, call .handle-exit .kept)) (c .lack3 .ensures),
     )
 
-sub-t58 : tie.Need-sub-t58 Inv-loop μ-loop
-sub-t58 c = c .before .before .loop .inv .9 .past (c .before .loop-test .left)
+sub-t59 : tie.Need-sub-t59 Inv-loop μ-loop
+sub-t59 c = c .before .before .loop .inv .9 .past (c .before .loop-test .left)
 
 same-length-8 : tie.Need-same-length-8 Inv-loop μ-loop
 same-length-8 c = omega (arith, c .before .before .loop .inv)
@@ -215,7 +215,7 @@ pass-spec =
     part-captures-start
     part-captures-end
     is-enter-requires
-    handle-enter-requires
+    on-enter-requires
     lack-requires-2
     loop-less-2
     loop-again-2
@@ -223,7 +223,7 @@ pass-spec =
     lack-requires-3
     loop-less-3
     loop-again-3
-    sub-t58
+    sub-t59
     same-length-8
     same-length-9
     same-length-10
