@@ -1,4 +1,4 @@
--- What the walk says: refusal 3's answer, where that is yes 4's, and where that is yes those of 5 and 6, and whether 7 may look at an event. Assumes nothing.
+-- What the walk says: refusal 3's answer, where that is yes 4's, and where that is yes those of 5 and 6, and whether 7 may look at an event. No part of a promise: `check` has its own. Assumes nothing.
 use mathlib.Core.Path.{_≡_}
 use mathlib.Core.Bool.{Bool, false, _&&_}
 use mathlib.Core.List.{List, [], _∷_}

@@ -121,9 +121,6 @@ module _ {b ns bs : List ℕ} {d q i : ℕ} (v : Inv b ns bs d q i) (more : i < 
   pub unopened : (kind ≡ 0 → ⊥) → d ≡ 0 → At i ≡ nestOf (tagsOf b)
   unopened k e = refuse (exit name) (exiting k) (rw e (none-open name (state q)))
 
-  pub behind-state : (d ≡ 0 → ⊥) → getD bs (d - 1) 0 < 48
-  behind-state h = v .all-states (d - 1) (omega arith)
-
   pub unleft : (r : Exit) → (kind ≡ 0 → ⊥) → (d ≡ 0 → ⊥) → Leaves (leave (state q) top name) r → r ≡ Stays → At i ≡ nestOf (tagsOf b)
   unleft r k h a e = refuse (exit name) (exiting k) (rw (newest h) (not-left name (state q) top (stackOf (d - 1) ns bs) (stays (leave (state q) top name) (rw e at a))))
 
