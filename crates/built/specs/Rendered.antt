@@ -1,4 +1,4 @@
--- The answer to what a run comes to, and how much of the output stays. Assumes nothing.
+-- The answer to what a run comes to, and how much of the output stays: no part of a promise, `Builds` has its own. Assumes nothing.
 use Prim.Native.Nat.{ℕ}
 use Rattle.built.specs.declared.Rendered.{Rendered}
 use Rattle.built.specs.declared.Rendered.the-variants as R

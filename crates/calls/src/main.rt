@@ -1,8 +1,9 @@
 // Every public call over standard input and output: requests in, answers out, until the input ends.
-ghost use Prim.Native.Nat.{_≤_};
+ghost use Prim.Native.Nat.{_+_, _≤_, _<_};
+ghost use mathlib.Core.Path.{_≡_};
 ghost use lib.ListN.{length};
-use requests::Head;
-use requests::Request;
+use machine::Ending;
+use machine::Options;
 
 // The most that a request may bring or ask for.
 const MOST_TEXT: usize = 262144;
@@ -12,6 +13,17 @@ const MOST_EVENTS: usize = 131072;
 const MOST_ROOM: usize = 524288;
 
 const MOST_WORK: usize = 131072;
+
+// A request's first 32 bytes, read.
+struct Request {
+    op: u8,
+    options: u8,
+    ending: u8,
+    text: usize,
+    events: usize,
+    room: usize,
+    work: usize,
+}
 
 fn main() {
     let mut input = [0u8; 393216];
@@ -34,11 +46,36 @@ fn serve_one(input: &mut [u8], answer: &mut [u8], work: &mut [u8]) -> bool {
     if io::read_full(0, &mut header) != 32 {
         return false;
     }
-    let request = requests::read_request(&header);
+    let request = read_request(&header);
     if (request.op < 1) | (8 < request.op) {
         return false;
     }
     answer_request(request, input, answer, work)
+}
+
+fn wide(b: u8) -> usize
+    ensures { λ r. ⌜ (r ≡ b) × (r < 256) ⌝ }
+{
+    b as usize
+}
+
+// Four bytes, little endian.
+fn u32_at(s: &[u8], at: usize) -> usize
+    requires { ⌜ at + 4 ≤ length (now s) ⌝ }
+{
+    wide(s[at]) + 256 * wide(s[at + 1]) + 65536 * wide(s[at + 2]) + 16777216 * wide(s[at + 3])
+}
+
+fn read_request(header: &[u8; 32]) -> Request {
+    Request {
+        op: header[0],
+        options: header[1],
+        ending: header[2],
+        text: u32_at(header, 4),
+        events: u32_at(header, 8),
+        room: u32_at(header, 12),
+        work: u32_at(header, 16),
+    }
 }
 
 // Takes the parts of the buffers that the request needs. A request past a limit ends the run.
@@ -108,7 +145,7 @@ fn write(r: Request, text: &[u8], answer: &mut [u8]) -> bool
     requires { ⌜ 24 ≤ length (now answer) ⌝ }
 {
     let written = call(r, text, &mut answer[24..]);
-    requests::put_head(&mut answer[0..24], written_head(written, r.room));
+    put_head(&mut answer[0..24], written_head(written, r.room));
     io::write_all(1, answer)
 }
 
@@ -117,7 +154,7 @@ fn check(text: &[u8], events: &[u8], answer: &mut [u8]) -> bool
     requires { ⌜ 24 ≤ length (now answer) ⌝ }
 {
     let checked = page::check(text, events);
-    requests::put_head(&mut answer[0..24], requests::checked_head(checked));
+    put_head(&mut answer[0..24], checked_head(checked));
     io::write_all(1, &answer[0..24])
 }
 
@@ -126,8 +163,8 @@ fn build(r: Request, text: &[u8], events: &[u8], answer: &mut [u8], work: &mut [
     requires { ⌜ 24 ≤ length (now answer) ⌝ }
 {
     let built = call_build(r, text, events, &mut answer[24..], work);
-    let head = requests::built_head(built, r.room, requests::state_of(work));
-    requests::put_head(&mut answer[0..24], head);
+    let head = built_head(built, r.room, state_of(work));
+    put_head(&mut answer[0..24], head);
     io::write_all(1, answer)
 }
 
@@ -136,10 +173,7 @@ fn read(r: Request, bundle: &[u8], answer: &mut [u8], events: &mut [u8]) -> bool
     requires { ⌜ 24 ≤ length (now answer) ⌝ }
 {
     let answered = call_reader(bundle, &mut answer[24..], events);
-    requests::put_head(
-        &mut answer[0..24],
-        requests::read_head(answered, r.room, r.work),
-    );
+    put_head(&mut answer[0..24], read_head(answered, r.room, r.work));
     if !io::write_all(1, answer) {
         return false;
     }
@@ -153,19 +187,38 @@ fn call_build(
     out: &mut [u8],
     work: &mut [u8],
 ) -> built::Built {
-    requests::fill(out, 0xA5);
-    requests::fill(work, 0xA5);
-    page::build(text, events, requests::options_of(r), out, work)
+    fill(out, 0xA5);
+    fill(work, 0xA5);
+    page::build(text, events, options_of(r), out, work)
+}
+
+fn options_of(r: Request) -> Options {
+    let bits = r.options;
+    let ending = ending_of(r.ending);
+    Options {
+        allow_dangerous_html: bits % 2 == 1,
+        allow_dangerous_protocol: bits / 2 % 2 == 1,
+        allow_any_img_src: bits / 4 % 2 == 1,
+        ending,
+    }
+}
+
+fn ending_of(ending: u8) -> Ending {
+    match ending {
+        1 => Ending::Cr,
+        2 => Ending::CrLf,
+        _ => Ending::Lf,
+    }
 }
 
 fn call_reader(bundle: &[u8], text: &mut [u8], events: &mut [u8]) -> bundle::Answer {
-    requests::fill(text, 0xA5);
-    requests::fill(events, 0xA5);
+    fill(text, 0xA5);
+    fill(events, 0xA5);
     page::read_bundle(bundle, text, events)
 }
 
 fn call(r: Request, text: &[u8], out: &mut [u8]) -> written::Written {
-    requests::fill(out, 0xA5);
+    fill(out, 0xA5);
     let op = r.op;
     match op {
         1 => page::escape(text, r.options % 2 == 1, out),
@@ -174,6 +227,25 @@ fn call(r: Request, text: &[u8], out: &mut [u8]) -> written::Written {
         4 => page::sanitize_image(text, out),
         _ => page::identity(text, out),
     }
+}
+
+// The answer's first 24 bytes.
+struct Head {
+    number: u32,
+    value: usize,
+    second: usize,
+    edition: u32,
+    room: usize,
+    work: usize,
+}
+
+fn put_head(out: &mut [u8], h: Head) {
+    put_u32(out, 0, h.number as usize);
+    put_u32(out, 4, h.value);
+    put_u32(out, 8, h.second);
+    put_u32(out, 12, h.edition as usize);
+    put_u32(out, 16, h.room);
+    put_u32(out, 20, h.work);
 }
 
 fn written_head(w: written::Written, room: usize) -> Head {
@@ -185,4 +257,66 @@ fn written_head(w: written::Written, room: usize) -> Head {
         room,
         work: 0,
     }
+}
+
+fn checked_head(c: checker::Checked) -> Head {
+    Head {
+        number: checker::number(c),
+        value: checker::place(c),
+        second: 0,
+        edition: 0,
+        room: 0,
+        work: 0,
+    }
+}
+
+fn built_head(b: built::Built, room: usize, work: usize) -> Head {
+    Head {
+        number: built::number(b),
+        value: built::value(b),
+        second: 0,
+        edition: 0,
+        room,
+        work,
+    }
+}
+
+fn read_head(a: bundle::Answer, room: usize, work: usize) -> Head {
+    Head {
+        number: bundle::number(a),
+        value: bundle::value(a),
+        second: bundle::events_length(a),
+        edition: bundle::edition(a),
+        room,
+        work,
+    }
+}
+
+// Four bytes, little endian.
+fn put_u32(head: &mut [u8], at: usize, x: usize) {
+    let second = lent::put(head, at, (x % 256) as u8);
+    let third = lent::put(head, second, (x / 256 % 256) as u8);
+    let fourth = lent::put(head, third, (x / 65536 % 256) as u8);
+    lent::put(head, fourth, (x / 16777216 % 256) as u8);
+}
+
+// Before a call a buffer holds a byte that no answer leaves in it.
+fn fill(s: &mut [u8], b: u8) {
+    let mut i = 0;
+    while i < s.len() {
+        s[i] = b;
+        i += 1;
+    }
+}
+
+// 1 where every byte is zero, else 2.
+fn state_of(s: &[u8]) -> usize {
+    let mut i = 0;
+    while i < s.len() {
+        if s[i] != 0 {
+            return 2;
+        }
+        i += 1;
+    }
+    1
 }

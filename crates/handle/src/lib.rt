@@ -1,4 +1,4 @@
-// The event at an index goes to its handler: by whether that concerns the context alone, by enter or exit, and by its name.
+// The event at an index goes to its handler: by whether that concerns the context alone, by enter or exit, and by its name. Enters of the context alone go to `enters`.
 ghost use Prim.Native.Nat.{_/_, _<_};
 ghost use mathlib.Core.Bool.{false, not};
 ghost use mathlib.Core.Path.{_≡_};

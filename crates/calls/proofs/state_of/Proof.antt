@@ -2,8 +2,8 @@
 use Prim.Native.Nat.{_-_, _≤_}
 use lib.ListN.{length}
 use borrow.Author.Needs.{needs}
-use Rattle.requests.proofs.state_of.Statement.{statement}
-use Rattle.requests.proofs.state_of.Tie as tie
+use Rattle.calls.proofs.state_of.Statement.{statement}
+use Rattle.calls.proofs.state_of.Tie as tie
 
 abbrev Inv-loop : tie.InvT-loop
 Inv-loop s i₀ i = i ≤ length s

@@ -3,8 +3,8 @@ use mathlib.Core.Path.{_≡_}
 use Prim.Native.Nat.{_-_}
 use lib.ListN.{length}
 use borrow.Author.Needs.{needs}
-use Rattle.requests.proofs.fill.Statement.{statement}
-use Rattle.requests.proofs.fill.Tie as tie
+use Rattle.calls.proofs.fill.Statement.{statement}
+use Rattle.calls.proofs.fill.Tie as tie
 
 abbrev Inv-loop : tie.InvT-loop
 Inv-loop s₀ b i₀ s i = length s ≡ length s₀
