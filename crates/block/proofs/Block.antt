@@ -1,9 +1,9 @@
--- What the code goes by on one block: its words, its check, its zeros, and verdicts. Assumes nothing.
+-- What the code goes by on one block: its words, its zeros, and verdicts. Assumes nothing.
 use mathlib.Core.Path.{_≡_, refl, sym, _∙_}
 use mathlib.Core.Bool.{Bool, true, false, _&&_, and-assoc, and-true}
 use mathlib.Core.List.{List, [], _∷_}
 use Prim.Native.Nat.{ℕ, zero, suc, _+_, _-_, _*_, _≤_, _<_}
-use native.Mathlib.Nat.{mul-le-mul, sub-zero, zero-sub, suc-sub-suc}
+use native.Mathlib.Nat.{sub-zero, zero-sub, suc-sub-suc}
 use native.Mathlib.Omega.{arith}
 use lib.Dec.{eqb}
 use lib.ListN.{length, take, drop, getD, drop-of-length-le}
@@ -14,7 +14,7 @@ use Rattle.block.specs.declared.Refusal.{Refusal}
 use Rattle.block.specs.declared.Refusal.the-variants.{Broken, BadCheck, OtherEdition}
 use Rattle.block.specs.declared.Verdict.{Verdict}
 use Rattle.block.specs.declared.Verdict.the-variants.{Good, Bad}
-use Rattle.block.specs.Block.{number, field, weighed, checkOf, editionIn, numberIn, checkIn, isZero, _before_, demand, judgeCheck, judgeEdition, judgeOrder, judgeBlock}
+use Rattle.block.specs.Block.{number, field, checkOf, editionIn, numberIn, checkIn, isZero, _before_, demand, judgeCheck, judgeEdition, judgeOrder, judgeBlock}
 
 -- ---- words
 
@@ -33,30 +33,6 @@ module _ (l : List ℕ) (at : ℕ) {a b : ℕ} where
       let m : at + 1 + 1 ≡ at + 2 = omega arith in
       let n : at + 2 + 1 ≡ at + 3 = omega arith in
       rw (p, q, next l at (omega arith), next l (at + 1) (omega arith), m, next l (at + 2) (omega arith), n, next l (at + 3) (omega arith)) (omega arith)
-
--- ---- the check
-
-module _ (w : ℕ) {a b : ℕ} (h : w ≤ 508) (p : a ≡ b) where
-  pub weight-most : a < 256 → w * a ≤ 129540
-  weight-most k = let j : a ≤ 255 = omega arith in mul-le-mul h j
-
-  pub weighed-byte : a < 256 → (w * a ≡ w * b) × (w * a ≤ 129540)
-  weighed-byte k = (rw p, weight-most k)
-
-pub weigh-none : (l : List ℕ) → 0 + weighed 0 (drop 0 l) ≡ checkOf l
-unfolding checkOf
-weigh-none l = omega arith
-
-module _ (l : List ℕ) (i sum w total : ℕ) (p : w ≡ i + 1) (q : sum + weighed i (drop i l) ≡ total) where
-  pub weigh-one : {b : ℕ} → i < length l → b ≡ w * getD l i 0 → sum + b + weighed (i + 1) (drop (i + 1) l) ≡ total
-  unfolding weighed
-  weigh-one h r =
-      let e : weighed i (drop i l) ≡ (i + 1) * getD l i 0 + weighed (i + 1) (drop (i + 1) l) = rw (next l i h) in
-      rw (r, p) (omega arith)
-
-  pub weigh-end : length l ≤ i → sum ≡ total
-  unfolding weighed
-  weigh-end h = let e : weighed i (drop i l) ≡ 0 = rw (drop-of-length-le l h) in omega arith
 
 -- ---- zeros
 

@@ -3,15 +3,16 @@ use mathlib.Core.Path.{_≡_, refl, ap}
 use mathlib.Core.Bool.{Bool, true, _&&_}
 use mathlib.Core.List.{List, [], _∷_, _++_}
 use Prim.Native.Nat.{ℕ, zero, suc, _+_, _*_, _/_, _%_, _^_, _≤_, _<_}
-use native.Mathlib.Nat.{pow-suc}
+use native.Mathlib.Nat.{pow-suc, mul-le-mul}
 use native.Mathlib.Omega.{arith}
 use borrow.Author.Tests.{ltb-true, lt-ltb, eqb-true}
-use lib.ListN.{length, take, drop}
+use lib.ListN.{length, take, drop, getD}
+use mir.Syntax.{w8}
+use mir.Val.{Fits}
 use Rattle.lent.specs.Bytes.{all}
 use Rattle.lent.specs.Fill.{zeros}
 use Rattle.lent.proofs.Laws.{and-left, and-right}
 use Rattle.block.specs.Block.{isByte, little, number, weighed, checkOf, isZero}
-use Rattle.block.proofs.Block.{weight-most}
 
 -- ---- what holds of each byte
 
@@ -36,6 +37,10 @@ module _ (f : ℕ → Bool) where
   pub all-zeros : f 0 ≡ true → (n : ℕ) → all f (zeros n) ≡ true
   all-zeros p zero = refl
   all-zeros p (suc n) = both p (all-zeros p n)
+
+bytes-known : (l : List ℕ) → ((k : ℕ) → Fits w8 (getD l k 0)) → all isByte l ≡ true
+bytes-known [] p = refl
+bytes-known (b ∷ l) p = both (lt-ltb b 256 (omega (arith, p 0))) (bytes-known l (λ k. p (suc k)))
 
 pub zeros-alone : (l : List ℕ) → all isZero l ≡ true → l ≡ zeros (length l)
 zeros-alone [] p = refl
@@ -83,14 +88,20 @@ number-small (b ∷ l) p =
 
 -- ---- the check fits four bytes
 
+weight-most : (w b : ℕ) → w ≤ 508 → b < 256 → w * b ≤ 129540
+weight-most w b h k = let j : b ≤ 255 = omega arith in mul-le-mul h j
+
 weighed-most : (at : ℕ) (l : List ℕ) → all isByte l ≡ true → at + length l ≤ 508 → weighed at l ≤ 129540 * length l
 unfolding weighed
 weighed-most at [] p h = omega arith
 weighed-most at (b ∷ l) p h =
     let k = ltb-true b 256 (and-left (isByte b) (all isByte l) p) in
-    let m : (at + 1) * b ≤ 129540 = weight-most (at + 1) (omega arith) refl k in
+    let m = weight-most (at + 1) b (omega arith) k in
     let i = weighed-most (at + 1) l (and-right (isByte b) (all isByte l) p) (omega arith) in
     omega arith
+
+pub weighed-small : (at : ℕ) (l : List ℕ) → ((k : ℕ) → Fits w8 (getD l k 0)) → at + length l ≤ 508 → weighed at l < 4294967296
+weighed-small at l p h = let m = weighed-most at l (bytes-known l p) h in omega arith
 
 pub check-small : (l : List ℕ) → all isByte l ≡ true → length l ≡ 508 → checkOf l < 256 ^ 4
 unfolding checkOf
