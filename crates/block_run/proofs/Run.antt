@@ -50,8 +50,8 @@ module _ (room count left i : ℕ) {here : ℕ} {d₀ d e : List ℕ} {at₀ at 
       let t : 512 * (i + 1) ≡ 512 * i + 512 = omega arith in
       step (rw (n, g, ← k, drop-drop 8 (512 * i) l, drop-drop 512 (512 * i) l, s, t)) p q
 
-pub held-none : (room count used : ℕ) (d l : List ℕ) → Left d 0 (heldIn room count used l) d 0 (heldIn room (count - 0) used (drop (512 * 0) l))
-held-none room count used d l = rw sub-zero all
+pub held-none : (room count used at : ℕ) (d l : List ℕ) → Left d at (heldIn room count used l) d at (heldIn room (count - 0) used (drop (512 * 0) l))
+held-none room count used at d l = rw sub-zero all
 
 pub held-end : (room count left i : ℕ) {d₀ d : List ℕ} {at₀ at : ℕ} {s₀ : List ℕ} (l : List ℕ) → count ≤ i → Left d₀ at₀ s₀ d at (heldIn room (count - i) left l) → Filled d₀ at₀ s₀ d at
 unfolding heldIn

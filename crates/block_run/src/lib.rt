@@ -26,7 +26,7 @@ pub fn judge_run(
     let mut at = 0;
     let mut left = used;
     while index < end {
-        let here = least(room, left);
+        let here = block::least(room, left);
         let verdict = block::judge_block(&blocks[at..at + BLOCK], edition, index, kind, here);
         let Verdict::Good = verdict else {
             return verdict;
@@ -43,32 +43,31 @@ pub fn fill_run(blocks: &[u8], room: usize, count: usize, used: usize, out: &mut
     requires { ⌜ (512 * count ≤ length (now blocks)) × (room ≤ 500) × (used ≤ room * count) × (used ≤ length (now out)) ⌝ }
     ensures { λ _. ⌜ now (out .exit) ≡ heldIn room count used (now (blocks .entry)) ++ zeros (length (now (out .entry)) - used) ⌝ }
 {
-    let end = copy_run(blocks, room, count, used, out);
+    let end = copy_run(blocks, room, count, used, out, 0);
     lent::clear(out, end);
 }
 
-fn copy_run(blocks: &[u8], room: usize, count: usize, used: usize, out: &mut [u8]) -> usize
+// What a run of blocks holds, appended at a place.
+pub fn copy_run(
+    blocks: &[u8],
+    room: usize,
+    count: usize,
+    used: usize,
+    out: &mut [u8],
+    at: usize,
+) -> usize
     requires { ⌜ (512 * count ≤ length (now blocks)) × (room ≤ 500) ⌝ }
-    ensures { λ r. ⌜ Filled (now (out .entry)) 0 (heldIn room count used (now (blocks .entry))) (now (out .exit)) r ⌝ }
+    ensures { λ r. ⌜ Filled (now (out .entry)) at (heldIn room count used (now (blocks .entry))) (now (out .exit)) r ⌝ }
 {
-    let mut end = 0;
+    let mut end = at;
     let mut i = 0;
     let mut left = used;
     while i < count {
-        let here = least(room, left);
+        let here = block::least(room, left);
         let from = BLOCK * i + 8;
         end = lent::put_all(out, end, &blocks[from..from + here]);
         i += 1;
         left -= here;
     }
     end
-}
-
-fn least(a: usize, b: usize) -> usize
-    ensures { λ r. ⌜ r ≡ min a b ⌝ }
-{
-    if a < b {
-        return a;
-    }
-    b
 }

@@ -26,7 +26,7 @@ use Rattle.block.proofs.Block.{first-bad, then-next, demanded, demanded-both, b
 use Rattle.block_run.proofs.Run.{length-held}
 
 -- a slice to the end
-rest : (l : List ℕ) (at : ℕ) → take (length l - at) (drop at l) ≡ drop at l
+pub rest : (l : List ℕ) (at : ℕ) → take (length l - at) (drop at l) ≡ drop at l
 rest l at = take-all (length l - at) (drop at l) (rw length-drop (omega arith))
 
 -- ---- each sentence

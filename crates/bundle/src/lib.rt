@@ -169,7 +169,7 @@ fn judge_length(bundle: &[u8]) -> Verdict
     )
 }
 
-fn judge_header(bundle: &[u8]) -> Verdict
+pub fn judge_header(bundle: &[u8]) -> Verdict
     requires { ⌜ 512 ≤ length (now bundle) ⌝ }
     ensures { λ r. ⌜ r ≡ judgeHeader (now (bundle .entry)) ⌝ }
 {

@@ -9,10 +9,10 @@ use Rattle.block_run.proofs.copy_run.Statement.{statement}
 use Rattle.block_run.proofs.copy_run.Tie as tie
 
 abbrev Inv-loop : tie.InvT-loop
-Inv-loop blocks room count used out₀ place₀ i₀ left₀ out place i left = (i ≤ count) × Left out₀ 0 (heldIn room count used blocks) out place (heldIn room (count - i) left (drop (512 * i) blocks))
+Inv-loop blocks room count used out₀ at place₀ i₀ left₀ out place i left = (i ≤ count) × Left out₀ at (heldIn room count used blocks) out place (heldIn room (count - i) left (drop (512 * i) blocks))
 
 abbrev μ-loop : tie.MeasureT-loop
-μ-loop blocks room count used out₀ place₀ i₀ left₀ out place i left = count - i
+μ-loop blocks room count used out₀ at place₀ i₀ left₀ out place i left = count - i
 
 loop-holds : tie.Need-loop-holds Inv-loop μ-loop
 loop-holds c = search (held-none, needs)
