@@ -1,13 +1,18 @@
 // The public calls. Each answers on all inputs, says every byte of the buffer lent to it, and demands nothing of its caller.
+ghost use Prim.Native.Nat.{ℕ};
+ghost use mathlib.Core.List.{List};
 ghost use mathlib.Core.Path.{_≡_};
 ghost use Rattle.encode.specs.Encode.{encodeOf};
 ghost use Rattle.sanitize_uri.specs.Url.{sanitizeOf};
 ghost use Rattle.sanitize_uri.specs.Protocols.{linkSchemes, imageSchemes, sanitizeWithProtocolsOf};
 ghost use Rattle.normalize_identifier.specs.Identity.{identityOf};
 ghost use Rattle.bundle.specs.Read.{HasRead};
+ghost use Rattle.bundle_parts.specs.Feed.{standOf, startOf, feedOf, endOf};
 ghost use Rattle.checker.specs.Checked.{checkOf};
 ghost use Rattle.build.specs.Build.{Builds};
 ghost use Rattle.written.specs.Written.{numberOf, valueOf, Wrote};
+use bundle_parts::Progress;
+use bundle_parts::Reader;
 use written::Written;
 
 // Escapes a text for HTML; without `encoding` only NUL is replaced.
@@ -70,6 +75,35 @@ pub fn read_bundle(bundle: &[u8], text: &mut [u8], events: &mut [u8]) -> bundle:
     ensures { λ r. ⌜ HasRead (now (bundle .entry)) (now (text .entry)) (now (events .entry)) (now (text .exit)) (now (events .exit)) r ⌝ }
 {
     bundle::read(bundle, text, events)
+}
+
+// A reader for a note bundle that comes in parts, before the first of them.
+pub fn bundle_reader() -> Reader
+    ensures { λ r. ⌜ ((t e : List ℕ) → standOf r t e ≡ startOf t e) ⌝ }
+{
+    bundle_parts::new()
+}
+
+// The next part of a bundle, of any length. Both buffers are lent at each call, as the call before left them; before the first call
+// they may hold anything.
+pub fn feed_bundle(reader: Reader, part: &[u8], text: &mut [u8], events: &mut [u8]) -> Reader
+    ensures { λ r. ⌜ standOf r (now (text .exit)) (now (events .exit)) ≡ feedOf (standOf reader (now (text .entry)) (now (events .entry))) (now (part .entry)) ⌝ }
+{
+    bundle_parts::feed(reader, part, text, events)
+}
+
+// No part follows.
+pub fn end_bundle(reader: Reader, text: &mut [u8], events: &mut [u8]) -> Reader
+    ensures { λ r. ⌜ standOf r (now (text .exit)) (now (events .exit)) ≡ endOf (standOf reader (now (text .entry)) (now (events .entry))) ⌝ }
+{
+    bundle_parts::end(reader, text, events)
+}
+
+// Whether more is wanted, or the answer.
+pub fn bundle_so_far(reader: Reader) -> Progress
+    ensures { λ r. ⌜ r ≡ reader .state .progress ⌝ }
+{
+    bundle_parts::so_far(reader)
 }
 
 // 01's number for an answer.

@@ -1,0 +1,4 @@
+pub mod Late
+pub mod Feed
+pub mod Parts
+pub mod Private
