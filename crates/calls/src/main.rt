@@ -2,6 +2,8 @@
 ghost use Prim.Native.Nat.{_+_, _≤_, _<_};
 ghost use mathlib.Core.Path.{_≡_};
 ghost use lib.ListN.{length};
+use bundle_parts::Progress;
+use bundle_parts::Reader;
 use machine::Ending;
 use machine::Options;
 
@@ -47,10 +49,17 @@ fn serve_one(input: &mut [u8], answer: &mut [u8], work: &mut [u8]) -> bool {
         return false;
     }
     let request = read_request(&header);
-    if (request.op < 1) | (8 < request.op) {
+    if !is_op(request.op) {
         return false;
     }
     answer_request(request, input, answer, work)
+}
+
+fn is_op(op: u8) -> bool {
+    match op {
+        1..=8 | 10 => true,
+        _ => false,
+    }
 }
 
 fn wide(b: u8) -> usize
@@ -136,6 +145,7 @@ fn respond(r: Request, n: usize, input: &[u8], answer: &mut [u8], work: &mut [u8
         6 => check(&input[0..n], &input[n..], answer),
         7 => build(r, &input[0..n], &input[n..], answer, work),
         8 => read(r, &input[0..n], answer, work),
+        10 => read_parts(r, &input[0..n], &input[n..], answer, work),
         _ => write(r, &input[0..n], answer),
     }
 }
@@ -180,6 +190,33 @@ fn read(r: Request, bundle: &[u8], answer: &mut [u8], events: &mut [u8]) -> bool
     io::write_all(1, events)
 }
 
+// The reader in parts. While more is wanted there is nothing to show of the buffers.
+fn read_parts(
+    r: Request,
+    bytes: &[u8],
+    lengths: &[u8],
+    answer: &mut [u8],
+    events: &mut [u8],
+) -> bool
+    requires { ⌜ 24 ≤ length (now answer) ⌝ }
+{
+    let reader = call_parts(r.options, bytes, lengths, &mut answer[24..], events);
+    let so_far = page::bundle_so_far(reader);
+    match so_far {
+        Progress::More => {
+            put_head(&mut answer[0..24], more_head());
+            io::write_all(1, &answer[0..24])
+        }
+        Progress::Done(a) => {
+            put_head(&mut answer[0..24], read_head(a, r.room, r.work));
+            if !io::write_all(1, answer) {
+                return false;
+            }
+            io::write_all(1, events)
+        }
+    }
+}
+
 fn call_build(
     r: Request,
     text: &[u8],
@@ -187,8 +224,7 @@ fn call_build(
     out: &mut [u8],
     work: &mut [u8],
 ) -> built::Built {
-    fill(out, 0xA5);
-    fill(work, 0xA5);
+    fill_both(out, work);
     page::build(text, events, options_of(r), out, work)
 }
 
@@ -212,9 +248,53 @@ fn ending_of(ending: u8) -> Ending {
 }
 
 fn call_reader(bundle: &[u8], text: &mut [u8], events: &mut [u8]) -> bundle::Answer {
-    fill(text, 0xA5);
-    fill(events, 0xA5);
+    fill_both(text, events);
     page::read_bundle(bundle, text, events)
+}
+
+// The parts; with bit 0 the end; with bit 1 two calls more, a part of three bytes and the end again.
+fn call_parts(
+    options: u8,
+    bytes: &[u8],
+    lengths: &[u8],
+    text: &mut [u8],
+    events: &mut [u8],
+) -> Reader {
+    fill_both(text, events);
+    let fed = feed_parts(page::bundle_reader(), bytes, lengths, text, events);
+    end_parts(options, fed, text, events)
+}
+
+fn end_parts(options: u8, fed: Reader, text: &mut [u8], events: &mut [u8]) -> Reader {
+    if options % 2 == 0 {
+        return fed;
+    }
+    let ended = page::end_bundle(fed, text, events);
+    if options / 2 % 2 == 0 {
+        return ended;
+    }
+    let more = page::feed_bundle(ended, b"ZZZ", text, events);
+    page::end_bundle(more, text, events)
+}
+
+// As many bytes for each part as its length says and as are left.
+fn feed_parts(
+    first: Reader,
+    bytes: &[u8],
+    lengths: &[u8],
+    text: &mut [u8],
+    events: &mut [u8],
+) -> Reader {
+    let mut reader = first;
+    let mut at = 0;
+    let mut listed = 0;
+    while 4 <= lengths.len() - listed {
+        let end = at + block::least(u32_at(lengths, listed), bytes.len() - at);
+        reader = page::feed_bundle(reader, &bytes[at..end], text, events);
+        at = end;
+        listed += 4;
+    }
+    reader
 }
 
 fn call(r: Request, text: &[u8], out: &mut [u8]) -> written::Written {
@@ -292,12 +372,29 @@ fn read_head(a: bundle::Answer, room: usize, work: usize) -> Head {
     }
 }
 
+// More is wanted.
+fn more_head() -> Head {
+    Head {
+        number: 255,
+        value: 0,
+        second: 0,
+        edition: 0,
+        room: 0,
+        work: 0,
+    }
+}
+
 // Four bytes, little endian.
 fn put_u32(head: &mut [u8], at: usize, x: usize) {
     let second = lent::put(head, at, (x % 256) as u8);
     let third = lent::put(head, second, (x / 256 % 256) as u8);
     let fourth = lent::put(head, third, (x / 65536 % 256) as u8);
     lent::put(head, fourth, (x / 16777216 % 256) as u8);
+}
+
+fn fill_both(one: &mut [u8], other: &mut [u8]) {
+    fill(one, 0xA5);
+    fill(other, 0xA5);
 }
 
 // Before a call a buffer holds a byte that no answer leaves in it.

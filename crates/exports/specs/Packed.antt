@@ -5,6 +5,7 @@ use mathlib.Core.List.{List}
 use Prim.Native.Nat.{ℕ, _+_, _^_}
 use lib.ListN.{length}
 use Rattle.bundle.specs.Read
+use Rattle.bundle_parts.specs.Late.{callLate}
 use Rattle.written.specs.declared.Written.{Written}
 use Rattle.written.specs.declared.Written.the-variants.{Length, TooLong, NotUtf8, NoRoom}
 use Rattle.written.specs.Written.{numberOf, answerOf, bytesOf}
@@ -31,6 +32,12 @@ pub record HasNumber (bundle t e u f : List ℕ) (r : ℕ) : Type 0 where
   pub answer : r ≡ Read.numberOf (Read.answerOf (Read.callOf bundle (length t) (length e)))
   pub text : u ≡ Read.textBytes (Read.callOf bundle (length t) (length e)) (length t)
   pub events : f ≡ Read.eventBytes (Read.callOf bundle (length t) (length e)) (length e)
+
+-- the same for the reader in parts
+pub record HasNumberLate (bundle t e u f : List ℕ) (r : ℕ) : Type 0 where
+  pub answer : r ≡ Read.numberOf (Read.answerOf (callLate bundle (length t) (length e)))
+  pub text : u ≡ Read.textBytes (callLate bundle (length t) (length e)) (length t)
+  pub events : f ≡ Read.eventBytes (callLate bundle (length t) (length e)) (length e)
 
 -- all options off, LF for a text without line endings
 abbrev pub plain : Options

@@ -5,9 +5,13 @@ ghost use Rattle.lent.specs.Fill.{Filled};
 ghost use Rattle.encode.specs.Encode.{encodeOf};
 ghost use Rattle.sanitize_uri.specs.Url.{sanitizeOf};
 ghost use Rattle.checker.specs.Checked.{checkOf, numberOf};
-ghost use Prim.Native.Nat.{_+_, _^_};
-ghost use Rattle.exports.specs.Packed.{packed, HasNumber, Packs, packedBuilt, plain, PacksBuilt};
+ghost use Prim.Native.Nat.{_+_, _^_, _<_};
+ghost use lib.ListN.{length};
+ghost use Rattle.exports.specs.Packed.{packed, HasNumber, HasNumberLate, Packs, packedBuilt, plain, PacksBuilt};
+ghost use Rattle.exports.specs.Cut.{Cut};
 use built::Built;
+use bundle_parts::Progress;
+use bundle_parts::Reader;
 use machine::Ending;
 use machine::Options;
 
@@ -98,6 +102,48 @@ pub extern "C" fn leaf_read_bundle(bundle: &[u8], text: &mut [u8], events: &mut 
 {
     let answer = page::read_bundle(bundle, text, events);
     bundle::number(answer)
+}
+
+// Reads a bundle in parts of so many bytes, then says the end; the answer is 01's number, or 255, which it never is.
+#[no_mangle]
+pub extern "C" fn leaf_read_parts(
+    bundle: &[u8],
+    size: usize,
+    text: &mut [u8],
+    events: &mut [u8],
+) -> u32
+    ensures { λ r. ⌜ HasNumberLate (now (bundle .entry)) (now (text .entry)) (now (events .entry)) (now (text .exit)) (now (events .exit)) r ⌝ }
+{
+    let fed = feed_all(bundle, size, text, events);
+    let ended = page::end_bundle(fed, text, events);
+    let so_far = page::bundle_so_far(ended);
+    let Progress::Done(answer) = so_far else {
+        return 255;
+    };
+    bundle::number(answer)
+}
+
+// Parts of so many bytes, a byte where it is none.
+fn feed_all(bundle: &[u8], size: usize, text: &mut [u8], events: &mut [u8]) -> Reader
+    ensures { λ r. ⌜ Cut (now (bundle .entry)) (length (now (bundle .entry))) (now (text .entry)) (now (events .entry)) (now (text .exit)) (now (events .exit)) r ⌝ }
+{
+    let mut reader = page::bundle_reader();
+    let mut at = 0;
+    while at < bundle.len() {
+        let end = at + block::least(at_least_one(size), bundle.len() - at);
+        reader = page::feed_bundle(reader, &bundle[at..end], text, events);
+        at = end;
+    }
+    reader
+}
+
+fn at_least_one(n: usize) -> usize
+    ensures { λ r. ⌜ 0 < r ⌝ }
+{
+    if n == 0 {
+        return 1;
+    }
+    n
 }
 
 // The length, or 2^63 and the refusal's number.

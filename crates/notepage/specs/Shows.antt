@@ -1,4 +1,4 @@
--- What the program shows of a bundle: the page of its note with all options off, or the first refusal. Assumes nothing.
+-- What the program shows of the bundle that its input brings: the page of its note with all options off, or the first refusal. Assumes nothing.
 use mathlib.Core.Path.{_≡_}
 use mathlib.Core.Bool.{false}
 use mathlib.Core.List.{List}
@@ -8,12 +8,16 @@ use Rattle.machine.specs.declared.Options.{Options}
 use Rattle.machine.specs.declared.Ending.the-variants.{Lf}
 use Rattle.bundle.specs.Bundle.{Meaning, says, refused}
 use Rattle.bundle.specs.Read as R
+use Rattle.bundle_parts.specs.declared.Reader.{Reader}
+use Rattle.bundle_parts.specs.Feed.{standOf, startOf}
+use Rattle.bundle_parts.specs.Late.{callLate}
+use Rattle.bundle_parts.specs.Parts.{joined, fedOf}
 use Rattle.built.specs.declared.Built.{Built}
 use Rattle.built.specs.declared.Built.the-variants as B
 use Rattle.build.specs.Build.{Ends}
 use Rattle.checker.specs.Checked as C
 use Rattle.notepage.specs.declared.Shown.{Shown}
-use Rattle.notepage.specs.declared.Shown.the-variants.{Page, Refused}
+use Rattle.notepage.specs.declared.Shown.the-variants.{Page, Refused, Unread}
 
 abbrev pub offOf : Options
 offOf = record { «allow_dangerous_html» = false; «allow_dangerous_protocol» = false; «allow_any_img_src» = false; ending = Lf }
@@ -35,5 +39,13 @@ abbrev pub ShowsOf : Meaning → (out work out′ : List ℕ) → Shown → Type
 ShowsOf (refused r) out work out′ s = s ≡ Refused (R.refusalNumber r) (R.refusalPlace r)
 ShowsOf (says text events edition) out work out′ s = ShowsNote text events out work out′ s
 
-pub record Shows (bundle text events out work out′ : List ℕ) (s : Shown) : Type 0 where
-  pub shows : ShowsOf (R.callOf bundle (length text) (length events)) out work out′ s
+-- the input brought these parts; or it could not be read, and nothing is shown
+pub data Shows (t e out work out′ : List ℕ) (s : Shown) : Type 0 where
+  read : (parts : List (List ℕ)) → ShowsOf (callLate (joined parts) (length t) (length e)) out work out′ s → Shows t e out work out′ s
+  unread : s ≡ Unread → Shows t e out work out′ s
+
+-- ---- said for an inner function, no part of the promise
+
+-- the reader and the buffers stand where any parts led, and the end is said
+pub record ShowsEnd (r : Reader) (t e out work out′ : List ℕ) (s : Shown) : Type 0 where
+  pub shows : (t₀ e₀ : List ℕ) (parts : List (List ℕ)) → standOf r t e ≡ fedOf (startOf t₀ e₀) parts → ShowsOf (callLate (joined parts) (length t₀) (length e₀)) out work out′ s
