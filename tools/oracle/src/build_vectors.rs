@@ -15,7 +15,6 @@ use crate::random::Random;
 use crate::record::{self, Record, ENTER, LENGTH};
 use crate::vectors::some;
 use std::collections::{BTreeMap, BTreeSet};
-use std::fs;
 
 const SEED: u64 = 8;
 /// The text, the events and the room of all but the limits together; the files should stay small.
@@ -23,25 +22,7 @@ const LONGEST: usize = 700;
 /// So many for each cause: the number, and the event at the place; for a page the options and the ending.
 const TAKEN: [(&str, usize); 4] = [("notes", 17), ("lists", 22), ("rooms", 6), ("damaged", 1)];
 
-/// Adds the builds to the files `stdin` and `stdout`.
-pub fn append(folder: &str) {
-    let builds = chosen();
-    let (stdin, stdout) = (format!("{folder}/stdin"), format!("{folder}/stdout"));
-    let mut asked = fs::read(&stdin).expect("stdin can be read");
-    let mut answered = fs::read(&stdout).expect("stdout can be read");
-    let before = asked.len() + answered.len();
-    for build in &builds {
-        build.write(&mut asked);
-        answered.extend(build.expected());
-    }
-    let more = asked.len() + answered.len() - before;
-    println!("{} builds, {more} bytes more, {} of stdin, {} of stdout", builds.len(), asked.len(), answered.len());
-    assert!(more < 3_000_000);
-    fs::write(stdin, asked).expect("stdin can be written");
-    fs::write(stdout, answered).expect("stdout can be written");
-}
-
-fn chosen() -> Vec<Build> {
+pub fn chosen() -> Vec<Build> {
     let small = |build: &Build| build.size().0 + build.room <= LONGEST;
     let table = rows().into_iter().map(|(list, options, room, _)| {
         let needed = whole_page(&list, options).map_or(0, |page| page.len());

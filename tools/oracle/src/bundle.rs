@@ -1,14 +1,12 @@
 // Document 01's note bundle, read by itself: packing, reading, and the cases on which op 8 of `calls` is compared.
+use crate::cases::{self, Family};
+use crate::drive::Asked;
 use crate::random::Random;
-use std::io::{Read, Write};
-use std::process::{Command, Stdio};
-use std::thread;
-use std::time::Instant;
 
-const BLOCK: usize = 512;
-const PAYLOAD: std::ops::Range<usize> = 8..508;
+pub const BLOCK: usize = 512;
+pub const PAYLOAD: std::ops::Range<usize> = 8..508;
 const CHECK: usize = 508;
-const RECORD: usize = 20;
+pub const RECORD: usize = 20;
 const SEED: u64 = 20_251_115;
 
 // ---- 01's section "Note bundle"
@@ -45,12 +43,12 @@ fn check(block: &[u8]) -> u32 {
     (1..).zip(&block[..CHECK]).map(|(weight, &byte)| weight * u32::from(byte)).sum()
 }
 
-fn mend(block: &mut [u8]) {
+pub fn mend(block: &mut [u8]) {
     let sum = check(block);
     block[CHECK..BLOCK].copy_from_slice(&sum.to_le_bytes());
 }
 
-fn word(bytes: &[u8], at: usize) -> u32 {
+pub fn word(bytes: &[u8], at: usize) -> u32 {
     u32::from_le_bytes(bytes[at..at + 4].try_into().unwrap())
 }
 
@@ -89,7 +87,7 @@ fn read_blocks(bytes: &[u8], text_room: usize, event_room: usize) -> Result<(Vec
 }
 
 /// A block by itself: 11, 12, 10.
-fn judge(block: &[u8], number: usize, edition: u32, kind: u8, used: usize) -> Result<(), (u32, usize)> {
+pub fn judge(block: &[u8], number: usize, edition: u32, kind: u8, used: usize) -> Result<(), (u32, usize)> {
     if word(block, CHECK) != check(block) {
         return Err((11, number));
     }
@@ -118,9 +116,11 @@ impl Case {
     fn of(bundle: Vec<u8>) -> Self {
         Case { bundle, text_room: 64_000, event_room: 64_000 }
     }
+}
 
-    /// Adds the request: a header of 32 bytes, and the bundle as its text.
-    pub fn write(&self, to: &mut Vec<u8>) {
+impl Asked for Case {
+    /// Adds the header of 32 bytes, and the bundle as the text.
+    fn write(&self, to: &mut Vec<u8>) {
         let lengths = [self.bundle.len(), 0, self.text_room, self.event_room];
         to.extend([8, 0, 0, 0]);
         to.extend(lengths.iter().flat_map(|&length| (length as u32).to_le_bytes()));
@@ -128,30 +128,42 @@ impl Case {
         to.extend(&self.bundle);
     }
 
-    /// All that `calls` has to write: a header of 24 bytes, and both buffers.
-    pub fn expected(&self) -> Vec<u8> {
-        let (fields, text, events) = match read(&self.bundle, self.text_room, self.event_room) {
-            Answer::Bundle { text, events, edition } => {
-                ([0, text.len() as u32, events.len() as u32, edition], text, events)
-            }
-            Answer::Refused { number, place } => ([number, place, 0, 0], Vec::new(), Vec::new()),
-        };
-        let rooms = [self.text_room as u32, self.event_room as u32];
-        let mut answer: Vec<u8> = fields.iter().chain(&rooms).flat_map(|field| field.to_le_bytes()).collect();
-        for (bytes, room) in [(text, self.text_room), (events, self.event_room)] {
-            let end = answer.len() + room;
-            answer.extend(bytes);
-            answer.resize(end, 0);
-        }
-        answer
+    fn expected(&self) -> Vec<u8> {
+        answered(&read(&self.bundle, self.text_room, self.event_room), self.text_room, self.event_room)
     }
+
+    fn size(&self) -> (usize, usize) {
+        (self.bundle.len(), self.text_room + self.event_room)
+    }
+
+    fn shown(&self) -> String {
+        format!("bundle of {} bytes, rooms {} {}", self.bundle.len(), self.text_room, self.event_room)
+    }
+}
+
+/// All that `calls` has to write: a header of 24 bytes, and both buffers.
+pub fn answered(answer: &Answer, text_room: usize, event_room: usize) -> Vec<u8> {
+    let (fields, text, events) = match answer {
+        Answer::Bundle { text, events, edition } => {
+            ([0, text.len() as u32, events.len() as u32, *edition], &text[..], &events[..])
+        }
+        Answer::Refused { number, place } => ([*number, *place, 0, 0], &[][..], &[][..]),
+    };
+    let rooms = [text_room as u32, event_room as u32];
+    let mut answer: Vec<u8> = fields.iter().chain(&rooms).flat_map(|field| field.to_le_bytes()).collect();
+    for (bytes, room) in [(text, text_room), (events, event_room)] {
+        let end = answer.len() + room;
+        answer.extend(bytes);
+        answer.resize(end, 0);
+    }
+    answer
 }
 
 // ---- families of cases, each in an order that never changes
 
-pub type Ask<'a> = &'a mut dyn FnMut(Case);
+type Ask<'a> = cases::Ask<'a, Case>;
 
-pub const FAMILIES: [(&str, fn(Ask)); 9] = [
+pub const FAMILIES: [Family<Case>; 9] = [
     ("good", good),
     ("cut", cut),
     ("bytes", bytes),
@@ -167,17 +179,17 @@ const TEXT_LENGTHS: [usize; 11] = [0, 1, 499, 500, 501, 999, 1_000, 1_001, 63_50
 const EVENT_COUNTS: [usize; 9] = [0, 1, 24, 25, 26, 49, 50, 3_199, 3_200];
 const EDITIONS: [u32; 5] = [0, 1, 0x0102_0304, 0x8000_0000, u32::MAX];
 
-fn noise(random: &mut Random, length: usize) -> Vec<u8> {
+pub fn noise(random: &mut Random, length: usize) -> Vec<u8> {
     (0..length).map(|_| random.below(256) as u8).collect()
 }
 
-fn bundle(random: &mut Random, text: usize, events: usize) -> Vec<u8> {
+pub fn bundle(random: &mut Random, text: usize, events: usize) -> Vec<u8> {
     let (text, events) = (noise(random, text), noise(random, events * RECORD));
     pack(&text, &events, random.pick(&EDITIONS))
 }
 
 /// Bundles of every shape: no block of a kind, one that is not full, one that is, and more.
-fn shapes(random: &mut Random) -> Vec<Vec<u8>> {
+pub fn shapes(random: &mut Random) -> Vec<Vec<u8>> {
     let sizes = [(0, 0), (3, 0), (0, 1), (3, 1), (500, 25), (501, 26), (1_100, 60)];
     sizes.iter().map(|&(text, events)| bundle(random, text, events)).collect()
 }
@@ -231,7 +243,7 @@ fn bytes(ask: Ask) {
     }
 }
 
-fn changed(bundle: &[u8], at: usize, change: u8, mended: bool) -> Vec<u8> {
+pub fn changed(bundle: &[u8], at: usize, change: u8, mended: bool) -> Vec<u8> {
     let mut other = bundle.to_vec();
     other[at] ^= change;
     if mended {
@@ -370,7 +382,7 @@ fn random(ask: Ask) {
     }
 }
 
-fn damage(bundle: &mut Vec<u8>, random: &mut Random) {
+pub fn damage(bundle: &mut Vec<u8>, random: &mut Random) {
     if bundle.len() < BLOCK {
         return;
     }
@@ -417,74 +429,4 @@ fn mended(bundle: &mut [u8], block: usize, place: usize) {
     let block = &mut bundle[block * BLOCK..(block + 1) * BLOCK];
     block[place] ^= 1;
     mend(block);
-}
-
-// ---- the comparison
-
-/// A process is given about this many bytes, requests and answers together.
-const BATCH: usize = 64 << 20;
-
-/// Compares the program with this reading, a line for each family; gives the number of differences.
-pub fn compare(program: &[&str]) -> usize {
-    let mut differences = 0;
-    for (name, cases) in FAMILIES {
-        let began = Instant::now();
-        let (mut batch, mut filled, mut asked, mut wrong) = (Vec::new(), 0, 0, 0);
-        cases(&mut |case: Case| {
-            filled += case.bundle.len() + case.text_room + case.event_room;
-            batch.push(case);
-            asked += 1;
-            if filled > BATCH {
-                wrong += differing(program, &std::mem::take(&mut batch));
-                filled = 0;
-            }
-        });
-        wrong += differing(program, &batch);
-        println!("bundle {name:<8} {asked:>6} cases  {wrong:>3} differences  {:>3} s", began.elapsed().as_secs());
-        differences += wrong;
-    }
-    differences
-}
-
-/// How many answers differ; the first of them is shown.
-fn differing(program: &[&str], batch: &[Case]) -> usize {
-    let mut input = Vec::new();
-    for case in batch {
-        case.write(&mut input);
-    }
-    let came = run(program, input);
-    let (mut at, mut wrong) = (0, 0);
-    for case in batch {
-        let wanted = case.expected();
-        let answer = &came[at.min(came.len())..came.len().min(at + wanted.len())];
-        if answer != wanted {
-            if wrong == 0 {
-                println!("    bundle of {} bytes, rooms {} {}", case.bundle.len(), case.text_room, case.event_room);
-                println!("    wanted {:?}, came {:?}", &wanted[..24], &answer[..answer.len().min(24)]);
-            }
-            wrong += 1;
-        }
-        at += wanted.len();
-    }
-    wrong + usize::from(at < came.len())
-}
-
-/// All that the program writes.
-fn run(program: &[&str], input: Vec<u8>) -> Vec<u8> {
-    let mut child = Command::new(program[0])
-        .args(&program[1..])
-        .env_clear()
-        .stdin(Stdio::piped())
-        .stdout(Stdio::piped())
-        .spawn()
-        .expect("the program can be started");
-    let mut stdin = child.stdin.take().unwrap();
-    let writer = thread::spawn(move || {
-        let _ = stdin.write_all(&input);
-    });
-    let mut came = Vec::new();
-    child.stdout.take().unwrap().read_to_end(&mut came).expect("the program's output can be read");
-    writer.join().unwrap();
-    child.wait().unwrap();
-    came
 }

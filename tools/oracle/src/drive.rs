@@ -118,13 +118,13 @@ impl<A: Asked> Drive<'_, A> {
 }
 
 /// The program at work on a batch.
-struct Running {
+pub struct Running {
     child: Child,
     writer: JoinHandle<()>,
     reader: JoinHandle<Vec<u8>>,
 }
 
-fn start<A: Asked>(program: &[&str], batch: &[A]) -> Running {
+pub fn start<A: Asked>(program: &[&str], batch: &[A]) -> Running {
     let mut input = Vec::new();
     for request in batch {
         request.write(&mut input);
@@ -150,7 +150,7 @@ fn start<A: Asked>(program: &[&str], batch: &[A]) -> Running {
 
 impl Running {
     /// All that the program writes. It may end early: the missing answers show in the comparison.
-    fn finish(mut self) -> Vec<u8> {
+    pub fn finish(mut self) -> Vec<u8> {
         self.writer.join().unwrap();
         let came = self.reader.join().unwrap();
         self.child.wait().unwrap();
@@ -175,7 +175,7 @@ fn answer_length(came: &[u8]) -> usize {
     came.len().min(24 + field(came, 16) as usize)
 }
 
-fn told(answer: &[u8]) -> String {
+pub fn told(answer: &[u8]) -> String {
     if answer.len() < 24 {
         return format!("{} bytes, no answer", answer.len());
     }

@@ -3,6 +3,7 @@ mod alone;
 mod build_vectors;
 mod builds;
 mod bundle;
+mod cases;
 mod check;
 mod checks;
 mod compile;
@@ -22,6 +23,9 @@ mod notes;
 mod page_limits;
 mod page_table;
 mod pages;
+mod part_families;
+mod part_vectors;
+mod parts;
 mod premises;
 mod random;
 mod record;
@@ -38,22 +42,25 @@ use families::LEAVES;
 use std::process::exit;
 use std::time::Instant;
 
-const USAGE: &str = "usage: oracle leaves|bundles|checks PROGRAM WORDS... | \
+const USAGE: &str = "usage: oracle leaves|bundles|parts|checks PROGRAM WORDS... | \
     oracle builds all|FAMILY,.. PROGRAM WORDS... | oracle files PROGRAM WORDS... <PATHS | oracle alone | \
-    oracle vectors|build-vectors DIR | oracle references | oracle export|compile OPTIONS ENDING";
+    oracle vectors|build-vectors|part-vectors DIR | oracle references | \
+    oracle export|compile OPTIONS ENDING";
 
 fn main() {
     let words: Vec<String> = std::env::args().skip(1).collect();
     let words: Vec<&str> = words.iter().map(String::as_str).collect();
     match words[..] {
         ["leaves", _, ..] => leaves(&words[1..]),
-        ["bundles", _, ..] => bundles(&words[1..]),
+        ["bundles", _, ..] => exit(i32::from(cases::compare("bundle", &bundle::FAMILIES, &words[1..]) > 0)),
+        ["parts", _, ..] => exit(i32::from(cases::compare("parts", &part_families::FAMILIES, &words[1..]) > 0)),
         ["checks", _, ..] => checks(&words[1..]),
         ["builds", families, _, ..] => builds(families, &words[2..]),
         ["files", _, ..] => exit(i32::from(files::compare(&words[1..]) > 0)),
         ["alone"] => exit(i32::from(alone::compare() > 0)),
         ["vectors", folder] => vectors::write(folder),
-        ["build-vectors", folder] => build_vectors::append(folder),
+        ["build-vectors", folder] => vectors::append(folder, &build_vectors::chosen(), 3_000_000),
+        ["part-vectors", folder] => vectors::append(folder, &part_vectors::fixed(), 3_500_000),
         ["references"] => references::print(),
         ["export", bits, ending] => export::print(page_options(bits, ending)),
         ["compile", bits, ending] => compile::print(page_options(bits, ending)),
@@ -67,13 +74,6 @@ fn main() {
 /// The two numbers as CALLS.md gives them: three bits, and 0 LF, 1 CR, 2 CR LF.
 fn page_options(bits: &str, ending: &str) -> PageOptions {
     PageOptions { bits: bits.parse().expect("a number"), ending: ending.parse().expect("a number") }
-}
-
-/// Compares the reader with an independent reading of document 01.
-fn bundles(program: &[&str]) {
-    if bundle::compare(program) > 0 {
-        exit(1);
-    }
 }
 
 /// Compares the build with the crate: all families, or those named with commas between.

@@ -10,6 +10,7 @@ use crate::random::Random;
 use crate::record::{written, Record, LENGTH};
 use crate::request::{Request, CALLS, ESCAPE, IDENTITY};
 use std::collections::{BTreeMap, BTreeSet};
+use std::fs;
 
 const SEED: u64 = 7;
 /// How many requests of each family are taken for each call, option and number of the answer. The limits are chosen
@@ -54,8 +55,25 @@ pub fn write(folder: &str) {
     let count = requests.len() + bundles.len() + lists.len();
     println!("{count} requests, {} bytes of stdin, {} bytes of stdout", stdin.len(), stdout.len());
     assert!(stdin.len() + stdout.len() < 3_500_000);
-    std::fs::write(format!("{folder}/stdin"), stdin).expect("stdin can be written");
-    std::fs::write(format!("{folder}/stdout"), stdout).expect("stdout can be written");
+    fs::write(format!("{folder}/stdin"), stdin).expect("stdin can be written");
+    fs::write(format!("{folder}/stdout"), stdout).expect("stdout can be written");
+}
+
+/// Adds requests and the judges' answers to them, together of at most so many bytes, to the files `stdin` and `stdout`.
+pub fn append<A: Asked>(folder: &str, requests: &[A], most: usize) {
+    let (stdin, stdout) = (format!("{folder}/stdin"), format!("{folder}/stdout"));
+    let mut asked = fs::read(&stdin).expect("stdin can be read");
+    let mut answered = fs::read(&stdout).expect("stdout can be read");
+    let before = asked.len() + answered.len();
+    for request in requests {
+        request.write(&mut asked);
+        answered.extend(request.expected());
+    }
+    let more = asked.len() + answered.len() - before;
+    println!("{} requests, {more} bytes more, {} of stdin, {} of stdout", requests.len(), asked.len(), answered.len());
+    assert!(more < most);
+    fs::write(stdin, asked).expect("stdin can be written");
+    fs::write(stdout, answered).expect("stdout can be written");
 }
 
 fn chosen() -> Vec<Request> {
