@@ -3,7 +3,15 @@
 #[allow(dead_code)]
 #[path = "../tools/oracle/src/bundle.rs"]
 mod bundle;
+#[cfg(not(count))]
+#[allow(dead_code)]
+#[path = "../tools/oracle/src/cases.rs"]
+mod cases;
 mod checker;
+#[cfg(not(count))]
+#[allow(dead_code)]
+#[path = "../tools/oracle/src/drive.rs"]
+mod drive;
 #[allow(dead_code, unused_imports, unused_macros)]
 #[path = "../tools/oracle/src/export.rs"]
 mod export;
@@ -33,6 +41,15 @@ extern "C" {
     fn leaf_read_bundle(
         bundle: *const u8,
         n: usize,
+        text: *mut u8,
+        text_room: usize,
+        events: *mut u8,
+        event_room: usize,
+    ) -> u32;
+    fn leaf_read_parts(
+        bundle: *const u8,
+        n: usize,
+        size: usize,
         text: *mut u8,
         text_room: usize,
         events: *mut u8,
@@ -215,24 +232,39 @@ fn main() {
     checker::print_rows(counts.get(2 * rows().len()..).unwrap_or(&[]));
 }
 
-/// The largest bundle, read; and the same bytes copied and no more.
+/// How many bytes a part of the largest bundle has.
+#[cfg(not(count))]
+const PARTS: [usize; 5] = [1, 7, 512, 1_500, 65_536];
+
+/// The largest bundle, read whole and in parts; and the same bytes copied and no more.
 #[cfg(not(count))]
 fn print_reader() {
     let mut random = Random(SEED);
     let mut noise = |length| (0..length).map(|_| random.below(256) as u8).collect::<Vec<u8>>();
     let (text, events) = (noise(64_000), noise(64_000));
     let bundle = bundle::pack(&text, &events, 7);
-    let (mut to_text, mut to_events, mut copy) = (vec![0; 64_000], vec![0; 64_000], vec![0; bundle.len()]);
-    let (from, again) = (bundle.clone(), bundle.clone());
-    let mut read: Side = Box::new(move || {
-        let (t, e) = (to_text.as_mut_ptr(), to_events.as_mut_ptr());
-        let number = unsafe { leaf_read_bundle(from.as_ptr(), from.len(), t, 64_000, e, 64_000) };
-        assert!(number == 0 && to_text[63_999] == text[63_999] && to_events[63_999] == events[63_999]);
-    });
+    let reader = |size: usize| -> Side {
+        let (mut to_text, mut to_events) = (vec![0xA5; 64_000], vec![0xA5; 64_000]);
+        let (from, text, events) = (bundle.clone(), text.clone(), events.clone());
+        Box::new(move || {
+            let (t, e) = (to_text.as_mut_ptr(), to_events.as_mut_ptr());
+            let number = match size {
+                0 => unsafe { leaf_read_bundle(from.as_ptr(), from.len(), t, 64_000, e, 64_000) },
+                _ => unsafe { leaf_read_parts(from.as_ptr(), from.len(), size, t, 64_000, e, 64_000) },
+            };
+            assert!(number == 0 && to_text[63_999] == text[63_999] && to_events[63_999] == events[63_999]);
+        })
+    };
+    let (again, mut copy) = (bundle.clone(), vec![0; bundle.len()]);
     let mut copied: Side = Box::new(move || copy.copy_from_slice(black_box(&again)));
-    let (our_time, copy_time, _) = measure(&mut read, &mut copied);
+    let (our_time, copy_time, _) = measure(&mut reader(0), &mut copied);
     let bytes = bundle.len() as f64;
     println!("bundle of {bytes} bytes: read {:.1} bytes/ns, a plain copy {:.1}", bytes / our_time, bytes / copy_time);
+    for size in PARTS {
+        let (parts_time, whole_time, _) = measure(&mut reader(size), &mut reader(0));
+        let ratio = parts_time / whole_time;
+        println!("  in parts of {size:>5} bytes: {:>6.2} bytes/ns, {ratio:.2} of the time of the whole", bytes / parts_time);
+    }
 }
 
 /// `counts` begins with the instructions of each side of each row, in their order, or is empty.

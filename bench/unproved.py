@@ -12,13 +12,14 @@ import sys
 root, kit, work = sys.argv[1:]
 own = f"{work}/kit/on/{os.uname().machine}"
 source = open(f"{root}/crates/exports/src/lib.rt").read()
-exports = re.findall(r'pub extern "C" fn (\w+)\((.*)\) -> (\w+)', source)
+found = re.findall(r'pub extern "C" fn (\w+)\(([^)]*)\) -> (\w+)', source)
+exports = [(name, [p.strip() for p in parameters.split(",") if p.strip()], result) for name, parameters, result in found]
 
 # the exports as a program that calls each of them once, without their contracts
 lines = [line for line in source.split("\n") if not re.match(r"\s*(ghost use|ensures|requires|#\[no_mangle\])", line)]
 calls = []
 for name, parameters, result in exports:
-    words = [f"&mut b{k}" if "&mut" in p else "&input[..n]" for k, p in enumerate(parameters.split(", "))]
+    words = [f"&mut b{k}" if "&mut" in p else "&input[..n]" if "&" in p else "n" for k, p in enumerate(parameters)]
     calls.append(f"t = t ^ {name}({', '.join(words)}) as u64;")
 buffers = "".join(f"let mut b{k} = [0u8; 49152];" for k in range(4))
 main = f"""fn main() {{
@@ -42,15 +43,17 @@ for name, path in libraries.items():
         words += ["--lib", f"{name}={path}"]
 subprocess.run(words, check=True, stdout=subprocess.DEVNULL)
 
-# as text, with what C calls: a slice is a place and a length
+# as text, with what C calls: a slice is a place and a length, any other parameter is a word
 clang = [f"{own}/toolchain/bin/clang", "-w", "-O0", "-Xclang", "-disable-llvm-passes", "-S", "-emit-llvm", "-x", "ir"]
 text = subprocess.run(clang + [f"{work}/module.bc", "-o", "-"], check=True, capture_output=True, text=True).stdout
 text = text.replace("define i32 @main(", "define i32 @trial_main(")
 for name, parameters, result in exports:
-    count = len(parameters.split(", "))
     kind = {"u32": "i32"}.get(result, "i64")
-    text += f"define {kind} @{name}({', '.join(f'ptr %p{k}, i64 %n{k}' for k in range(count))}) nounwind {{\n"
-    for k in range(count):
+    slices = [k for k, p in enumerate(parameters) if "&" in p]
+    taken = [f"ptr %p{k}, i64 %n{k}" if k in slices else f"i64 %n{k}" for k in range(len(parameters))]
+    text += f"define {kind} @{name}({', '.join(taken)}) nounwind {{\n"
+    for k in slices:
         text += f"%s{k} = alloca {{ptr, i64}}\nstore ptr %p{k}, ptr %s{k}\n%g{k} = getelementptr i8, ptr %s{k}, i64 8\nstore i64 %n{k}, ptr %g{k}\n"
-    text += f"%r = call {kind} @\"trial::{name}\"({', '.join(f'ptr %s{k}' for k in range(count))})\nret {kind} %r\n}}\n"
+    given = [f"ptr %s{k}" if k in slices else f"i64 %n{k}" for k in range(len(parameters))]
+    text += f"%r = call {kind} @\"trial::{name}\"({', '.join(given)})\nret {kind} %r\n}}\n"
 open(f"{work}/module.ll", "w").write(text)
