@@ -87,7 +87,7 @@ pub fn first(one: Verdict, other: Verdict) -> Verdict
 }
 
 // The sum of (place + 1) times byte: of the whole rows, and of the bytes behind them one by one.
-fn check_of(front: &[u8]) -> u32
+pub fn check_of(front: &[u8]) -> u32
     requires { ⌜ length (now front) ≤ 508 ⌝ }
     ensures { λ r. ⌜ r ≡ checkOf (now (front .entry)) ⌝ }
 {

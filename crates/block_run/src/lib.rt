@@ -7,7 +7,7 @@ ghost use Rattle.lent.specs.Fill.{zeros, Filled};
 ghost use Rattle.block_run.specs.Run.{judgeRun, heldIn};
 use block::Verdict;
 
-const BLOCK: usize = 512;
+pub const BLOCK: usize = 512;
 
 // The blocks from `start` up to `end`, of one kind, that use `used` bytes, at most `room` of them each.
 pub fn judge_run(

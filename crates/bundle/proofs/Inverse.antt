@@ -39,7 +39,7 @@ good l s =
 
 -- ---- what is written is read again
 
-module _ (text events : List ℕ) (edition : ℕ) (w : Within text events edition) where
+module _ (text events : List ℕ) (edition : ℕ) where
   head : List ℕ
   head = blockOf edition 0 headerKind (headerOf text events)
 
@@ -61,94 +61,102 @@ module _ (text events : List ℕ) (edition : ℕ) (w : Within text events editio
   unfolding records
   length-records = length-run edition eventKind eventRoom (omega arith) (blocksFor eventRoom (length events)) (1 + blocksFor textRoom (length text)) events
 
-  -- the bundle is these three, one behind the other, and its header says what it holds
-  module _ (l : List ℕ) (p : l ≡ bundleOf text events edition) where
-    three : l ≡ head ++ (texts ++ records)
-    unfolding bundleOf head texts records
-    three = p ∙ append-assoc head texts records
+  -- the bundle is these three, one behind the other
+  pub length-bundle : length (bundleOf text events edition) ≡ 512 * (1 + blocksFor textRoom (length text) + blocksFor eventRoom (length events))
+  unfolding bundleOf head texts records
+  length-bundle =
+      let a = length-head in
+      let b = length-texts in
+      let c = length-records in
+      let d = length-append (head ++ texts) records in
+      let e = length-append head texts in
+      omega arith
 
-    length-three : length l ≡ 512 * (1 + blocksFor textRoom (length text) + blocksFor eventRoom (length events))
-    length-three =
-        let a = length-head in
-        let b = length-texts in
-        let c = length-records in
-        rw (three, length-append, length-append) (omega arith)
+  module _ (w : Within text events edition) where
+    -- its header says what it holds
+    module _ (l : List ℕ) (p : l ≡ bundleOf text events edition) where
+      three : l ≡ head ++ (texts ++ records)
+      unfolding bundleOf head texts records
+      three = p ∙ append-assoc head texts records
 
-    edition-read : editionIn l ≡ edition
-    unfolding bundleOf blockOf frontOf little
-    edition-read = rw p (number-little 4 edition (w .edition-word))
+      length-three : length l ≡ 512 * (1 + blocksFor textRoom (length text) + blocksFor eventRoom (length events))
+      length-three = ap length p ∙ length-bundle
 
-    text-read : textLength l ≡ length text
-    unfolding bundleOf blockOf frontOf little
-    text-read = let h = w .text-length in rw p (number-little 4 (length text) (omega arith))
+      edition-read : editionIn l ≡ edition
+      unfolding bundleOf blockOf frontOf little
+      edition-read = rw p (number-little 4 edition (w .edition-word))
 
-    count-read : eventCount l ≡ length events / recordSize
-    unfolding bundleOf blockOf frontOf little
-    count-read = let h = w .event-length in rw p (number-little 4 (length events / recordSize) (omega arith))
+      text-read : textLength l ≡ length text
+      unfolding bundleOf blockOf frontOf little
+      text-read = let h = w .text-length in rw p (number-little 4 (length text) (omega arith))
 
-    events-read : eventLength l ≡ length events
-    events-read = let c = count-read in let r = w .event-records in omega arith
+      count-read : eventCount l ≡ length events / recordSize
+      unfolding bundleOf blockOf frontOf little
+      count-read = let h = w .event-length in rw p (number-little 4 (length events / recordSize) (omega arith))
 
-    head-there : take 512 l ≡ head
-    head-there = rw three (take-at head (texts ++ records) 512 length-head)
+      events-read : eventLength l ≡ length events
+      events-read = let c = count-read in let r = w .event-records in omega arith
 
-    texts-there : drop 512 l ≡ texts ++ records
-    texts-there = rw three (drop-at head (texts ++ records) 512 length-head)
+      head-there : take 512 l ≡ head
+      head-there = rw three (take-at head (texts ++ records) 512 length-head)
 
-    records-there : drop (512 * (1 + blocksFor textRoom (length text))) l ≡ records
-    unfolding bundleOf head texts records
-    records-there =
-        let a = length-head in
-        let b = length-texts in
-        rw p (drop-at (head ++ texts) records (512 * (1 + blocksFor textRoom (length text))) (rw length-append (omega arith)))
+      texts-there : drop 512 l ≡ texts ++ records
+      texts-there = rw three (drop-at head (texts ++ records) 512 length-head)
 
-    header-good : judgeBlock (editionIn l) 0 headerKind headerUsed (take 512 l) ≡ Good
-    unfolding head little
-    header-good =
-        let bytes = all-append isByte (little 4 (length text)) (little 4 (length events / recordSize)) (bytes-little 4 (length text)) (bytes-little 4 (length events / recordSize)) in
-        rw (edition-read, head-there) (written-good edition 0 headerKind (headerOf text events) (omega arith) (w .edition-word) (omega arith) (omega arith) bytes)
+      records-there : drop (512 * (1 + blocksFor textRoom (length text))) l ≡ records
+      unfolding bundleOf head texts records
+      records-there =
+          let a = length-head in
+          let b = length-texts in
+          rw p (drop-at (head ++ texts) records (512 * (1 + blocksFor textRoom (length text))) (rw length-append (omega arith)))
 
-    texts-good : judgeText l ≡ Good
-    unfolding judgeText texts
-    texts-good =
-        let h = w .text-length in
-        rw (edition-read, text-read, texts-there)
-        (run-good edition textKind textRoom (omega arith) (w .edition-word) (omega arith) (blocksFor textRoom (length text)) 1 text records (omega arith) (w .text-bytes))
+      header-good : judgeBlock (editionIn l) 0 headerKind headerUsed (take 512 l) ≡ Good
+      unfolding head little
+      header-good =
+          let bytes = all-append isByte (little 4 (length text)) (little 4 (length events / recordSize)) (bytes-little 4 (length text)) (bytes-little 4 (length events / recordSize)) in
+          rw (edition-read, head-there) (written-good edition 0 headerKind (headerOf text events) (omega arith) (w .edition-word) (omega arith) (omega arith) bytes)
 
-    records-good : judgeEvents l ≡ Good
-    unfolding judgeEvents records
-    records-good =
-        let h = w .text-length in
-        let k = w .event-length in
-        let g = run-good edition eventKind eventRoom (omega arith) (w .edition-word) (omega arith) (blocksFor eventRoom (length events)) (1 + blocksFor textRoom (length text)) events [] (omega arith) (w .event-bytes) in
-        rw (edition-read, text-read, events-read, records-there) (rw append-nil at g)
+      texts-good : judgeText l ≡ Good
+      unfolding judgeText texts
+      texts-good =
+          let h = w .text-length in
+          rw (edition-read, text-read, texts-there)
+          (run-good edition textKind textRoom (omega arith) (w .edition-word) (omega arith) (blocksFor textRoom (length text)) 1 text records (omega arith) (w .text-bytes))
 
-    sound-written : Sound l
-    sound-written =
-        let n = length-three in
-        let t = text-read in
-        let c = count-read in
-        let e = events-read in
-        let h = w .text-length in
-        let k = w .event-length in
-        record { whole = omega arith; header = header-good; text = omega arith; count = omega arith; blocks = omega arith; texts = texts-good; events = records-good }
+      records-good : judgeEvents l ≡ Good
+      unfolding judgeEvents records
+      records-good =
+          let h = w .text-length in
+          let k = w .event-length in
+          let g = run-good edition eventKind eventRoom (omega arith) (w .edition-word) (omega arith) (blocksFor eventRoom (length events)) (1 + blocksFor textRoom (length text)) events [] (omega arith) (w .event-bytes) in
+          rw (edition-read, text-read, events-read, records-there) (rw append-nil at g)
 
-    text-held : textIn l ≡ text
-    unfolding textIn texts
-    text-held = rw (text-read, texts-there) (run-held edition textKind textRoom (omega arith) (blocksFor textRoom (length text)) 1 text records (omega arith))
+      sound-written : Sound l
+      sound-written =
+          let n = length-three in
+          let t = text-read in
+          let c = count-read in
+          let e = events-read in
+          let h = w .text-length in
+          let k = w .event-length in
+          record { whole = omega arith; header = header-good; text = omega arith; count = omega arith; blocks = omega arith; texts = texts-good; events = records-good }
 
-    events-held : eventsIn l ≡ events
-    unfolding eventsIn records
-    events-held =
-        let g = run-held edition eventKind eventRoom (omega arith) (blocksFor eventRoom (length events)) (1 + blocksFor textRoom (length text)) events [] (omega arith) in
-        rw (text-read, events-read, records-there) (rw append-nil at g)
+      text-held : textIn l ≡ text
+      unfolding textIn texts
+      text-held = rw (text-read, texts-there) (run-held edition textKind textRoom (omega arith) (blocksFor textRoom (length text)) 1 text records (omega arith))
 
-    read-again : readOf l ≡ says text events edition
-    unfolding readOf
-    read-again = rw (good l sound-written, text-held, events-held, edition-read)
+      events-held : eventsIn l ≡ events
+      unfolding eventsIn records
+      events-held =
+          let g = run-held edition eventKind eventRoom (omega arith) (blocksFor eventRoom (length events)) (1 + blocksFor textRoom (length text)) events [] (omega arith) in
+          rw (text-read, events-read, records-there) (rw append-nil at g)
 
-  pub read-written : readOf (bundleOf text events edition) ≡ says text events edition
-  read-written = read-again (bundleOf text events edition) refl
+      read-again : readOf l ≡ says text events edition
+      unfolding readOf
+      read-again = rw (good l sound-written, text-held, events-held, edition-read)
+
+    pub read-written : readOf (bundleOf text events edition) ≡ says text events edition
+    read-written = read-again (bundleOf text events edition) refl
 
 -- ---- what is read is what would be written
 

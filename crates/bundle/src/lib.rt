@@ -10,30 +10,29 @@ ghost use Rattle.bundle.specs.Bundle.{judgeLength, judgeHeader, judgeCou
 ghost use Rattle.bundle.specs.Read.{numberOf, valueOf, eventsOf, editionOf, judgeCall, HasRead};
 use block::Refusal;
 use block::Verdict;
+use block_run::BLOCK;
 
-const BLOCK: usize = 512;
+pub const MOST_TEXT: usize = 64000;
 
-const MOST_TEXT: usize = 64000;
+pub const MOST_EVENTS: usize = 3200;
 
-const MOST_EVENTS: usize = 3200;
+pub const LEAST_ROOM: usize = 64000;
 
-const LEAST_ROOM: usize = 64000;
-
-const RECORD: usize = 20;
+pub const RECORD: usize = 20;
 
 const RECORDS_PER_BLOCK: usize = 25;
 
-const TEXT_ROOM: usize = 500;
+pub const TEXT_ROOM: usize = 500;
 
-const EVENT_ROOM: usize = RECORDS_PER_BLOCK * RECORD;
+pub const EVENT_ROOM: usize = RECORDS_PER_BLOCK * RECORD;
 
-const HEADER_USED: usize = 8;
+pub const HEADER_USED: usize = 8;
 
-const HEADER_KIND: u8 = 1;
+pub const HEADER_KIND: u8 = 1;
 
-const TEXT_KIND: u8 = 2;
+pub const TEXT_KIND: u8 = 2;
 
-const EVENT_KIND: u8 = 3;
+pub const EVENT_KIND: u8 = 3;
 
 // What a bundle holds, in bytes, and its edition; or why it is refused.
 pub enum Answer {
@@ -314,7 +313,7 @@ fn event_blocks(bundle: &[u8]) -> usize
 }
 
 // As many blocks as so many bytes need.
-fn blocks_for(room: usize, bytes: usize) -> usize
+pub fn blocks_for(room: usize, bytes: usize) -> usize
     requires { ⌜ (0 < room) × (room ≤ 500) × (bytes < 1000000000000) ⌝ }
     ensures { λ r. ⌜ r ≡ blocksFor room bytes ⌝ }
 {

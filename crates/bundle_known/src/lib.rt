@@ -7,16 +7,14 @@ ghost use Rattle.bundle_known.specs.Known.{unknown, saidIn, indexOf, who
 ghost use Rattle.bundle_known.specs.Step.{Advanced, RanAll, RanEvents, Ran};
 use block::Refusal;
 use block::Verdict;
+use block_run::BLOCK;
+use bundle::EVENT_KIND;
+use bundle::TEXT_KIND;
 
-const BLOCK: usize = 512;
-
-const ROOM: usize = 500;
+// What a block of either kind can hold.
+const ROOM: usize = bundle::TEXT_ROOM;
 
 const RECORD: u32 = 20;
-
-const TEXT_KIND: u8 = 2;
-
-const EVENT_KIND: u8 = 3;
 
 // Whether block 0 has come, what it says (lengths in bytes), and how much of text and events has come. Lengths are 32 bits
 // wide, so that no sum of theirs can overflow, whatever a caller makes of them.

@@ -10,13 +10,11 @@ ghost use Rattle.bundle_known.specs.Known.{wholeOf, advanceOf};
 ghost use Rattle.bundle_parts.specs.Feed.{standing, standOf, startOf, refusedAt, kept, settled, fresh, feedOf, endOf};
 ghost use Rattle.bundle_parts.specs.Private.{isRoomy, clearedUnless, TookMore, Finished};
 use block::Refusal;
+use block_run::BLOCK;
 use bundle::Answer;
+use bundle::LEAST_ROOM;
 use bundle_known::Known;
 use bundle_known::Step;
-
-const BLOCK: usize = 512;
-
-const LEAST_ROOM: usize = 64000;
 
 // More is wanted, or the answer.
 pub enum Progress {
