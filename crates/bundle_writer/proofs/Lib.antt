@@ -1,0 +1,4 @@
+pub mod Parts
+pub mod Call
+pub mod Inverse
+pub mod Examples

@@ -1,0 +1,17 @@
+-- All is cleared. Assumes nothing.
+use Rattle.bundle_writer.proofs.Call.{cleared}
+use borrow.Author.Needs.{needs}
+use Rattle.bundle_writer.proofs.refuse.Statement.{statement}
+use Rattle.bundle_writer.proofs.refuse.Tie as tie
+
+clear-requires : tie.Need-clear-requires
+clear-requires c κs = search needs
+
+same-length : tie.Need-same-length
+same-length c = search needs
+
+returns : tie.Need-returns
+returns c = (search needs, search cleared)
+
+pub refuse-spec : {M : Type 1} → statement M
+refuse-spec = tie.close (tie.spec clear-requires same-length returns)
