@@ -4,6 +4,7 @@ ghost use mathlib.Core.Path.{_≡_};
 ghost use lib.ListN.{length};
 use bundle_parts::Progress;
 use bundle_parts::Reader;
+use bundle_writer::Packed;
 use machine::Ending;
 use machine::Options;
 
@@ -25,6 +26,7 @@ struct Request {
     events: usize,
     room: usize,
     work: usize,
+    edition: u32,
 }
 
 fn main() {
@@ -57,7 +59,7 @@ fn serve_one(input: &mut [u8], answer: &mut [u8], work: &mut [u8]) -> bool {
 
 fn is_op(op: u8) -> bool {
     match op {
-        1..=8 | 10 => true,
+        1..=10 => true,
         _ => false,
     }
 }
@@ -84,6 +86,7 @@ fn read_request(header: &[u8; 32]) -> Request {
         events: u32_at(header, 8),
         room: u32_at(header, 12),
         work: u32_at(header, 16),
+        edition: block::u32_at(header, 20),
     }
 }
 
@@ -145,6 +148,7 @@ fn respond(r: Request, n: usize, input: &[u8], answer: &mut [u8], work: &mut [u8
         6 => check(&input[0..n], &input[n..], answer),
         7 => build(r, &input[0..n], &input[n..], answer, work),
         8 => read(r, &input[0..n], answer, work),
+        9 => write_bundle(r, &input[0..n], &input[n..], answer),
         10 => read_parts(r, &input[0..n], &input[n..], answer, work),
         _ => write(r, &input[0..n], answer),
     }
@@ -188,6 +192,15 @@ fn read(r: Request, bundle: &[u8], answer: &mut [u8], events: &mut [u8]) -> bool
         return false;
     }
     io::write_all(1, events)
+}
+
+// The writer.
+fn write_bundle(r: Request, text: &[u8], events: &[u8], answer: &mut [u8]) -> bool
+    requires { ⌜ 24 ≤ length (now answer) ⌝ }
+{
+    let packed = call_writer(r.edition, text, events, &mut answer[24..]);
+    put_head(&mut answer[0..24], packed_head(packed, r.room));
+    io::write_all(1, answer)
 }
 
 // The reader in parts. While more is wanted there is nothing to show of the buffers.
@@ -250,6 +263,11 @@ fn ending_of(ending: u8) -> Ending {
 fn call_reader(bundle: &[u8], text: &mut [u8], events: &mut [u8]) -> bundle::Answer {
     fill_both(text, events);
     page::read_bundle(bundle, text, events)
+}
+
+fn call_writer(edition: u32, text: &[u8], events: &[u8], out: &mut [u8]) -> Packed {
+    fill(out, 0xA5);
+    page::write_bundle(text, events, edition, out)
 }
 
 // The parts; with bit 0 the end; with bit 1 two calls more, a part of three bytes and the end again.
@@ -369,6 +387,17 @@ fn read_head(a: bundle::Answer, room: usize, work: usize) -> Head {
         edition: bundle::edition(a),
         room,
         work,
+    }
+}
+
+fn packed_head(p: Packed, room: usize) -> Head {
+    Head {
+        number: bundle_writer::number(p),
+        value: bundle_writer::value(p),
+        second: 0,
+        edition: 0,
+        room,
+        work: 0,
     }
 }
 

@@ -7,12 +7,14 @@ ghost use Rattle.sanitize_uri.specs.Url.{sanitizeOf};
 ghost use Rattle.sanitize_uri.specs.Protocols.{linkSchemes, imageSchemes, sanitizeWithProtocolsOf};
 ghost use Rattle.normalize_identifier.specs.Identity.{identityOf};
 ghost use Rattle.bundle.specs.Read.{HasRead};
+ghost use Rattle.bundle_writer.specs.Packed.{HasPacked};
 ghost use Rattle.bundle_parts.specs.Feed.{standOf, startOf, feedOf, endOf};
 ghost use Rattle.checker.specs.Checked.{checkOf};
 ghost use Rattle.build.specs.Build.{Builds};
 ghost use Rattle.written.specs.Written.{numberOf, valueOf, Wrote};
 use bundle_parts::Progress;
 use bundle_parts::Reader;
+use bundle_writer::Packed;
 use written::Written;
 
 // Escapes a text for HTML; without `encoding` only NUL is replaced.
@@ -75,6 +77,13 @@ pub fn read_bundle(bundle: &[u8], text: &mut [u8], events: &mut [u8]) -> bundle:
     ensures { λ r. ⌜ HasRead (now (bundle .entry)) (now (text .entry)) (now (events .entry)) (now (text .exit)) (now (events .exit)) r ⌝ }
 {
     bundle::read(bundle, text, events)
+}
+
+// Writes the note bundle of a text, events and an edition, with zeros behind it; or a refusal, with nothing in the output.
+pub fn write_bundle(text: &[u8], events: &[u8], edition: u32, out: &mut [u8]) -> Packed
+    ensures { λ r. ⌜ HasPacked (now (text .entry)) (now (events .entry)) edition (now (out .entry)) (now (out .exit)) r ⌝ }
+{
+    bundle_writer::write(text, events, edition, out)
 }
 
 // A reader for a note bundle that comes in parts, before the first of them.
