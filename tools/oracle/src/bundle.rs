@@ -113,7 +113,7 @@ pub struct Case {
 
 impl Case {
     /// With the least buffers that are taken.
-    fn of(bundle: Vec<u8>) -> Self {
+    pub fn of(bundle: Vec<u8>) -> Self {
         Case { bundle, text_room: 64_000, event_room: 64_000 }
     }
 }
@@ -177,7 +177,7 @@ pub const FAMILIES: [Family<Case>; 9] = [
 
 const TEXT_LENGTHS: [usize; 11] = [0, 1, 499, 500, 501, 999, 1_000, 1_001, 63_500, 63_999, 64_000];
 const EVENT_COUNTS: [usize; 9] = [0, 1, 24, 25, 26, 49, 50, 3_199, 3_200];
-const EDITIONS: [u32; 5] = [0, 1, 0x0102_0304, 0x8000_0000, u32::MAX];
+pub const EDITIONS: [u32; 5] = [0, 1, 0x0102_0304, 0x8000_0000, u32::MAX];
 
 pub fn noise(random: &mut Random, length: usize) -> Vec<u8> {
     (0..length).map(|_| random.below(256) as u8).collect()

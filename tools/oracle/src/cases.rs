@@ -72,8 +72,8 @@ impl Count {
     }
 }
 
-/// How long the first answer is by its own word, at most all there is: both buffers follow it.
-fn answer_length(came: &[u8]) -> usize {
+/// How long the first answer is by its own word, at most all there is: a reader has two buffers, a writer one.
+pub fn answer_length(came: &[u8]) -> usize {
     if came.len() < 24 {
         return came.len();
     }

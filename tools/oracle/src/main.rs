@@ -35,6 +35,7 @@ mod shrink;
 mod table;
 mod totals;
 mod vectors;
+mod writes;
 
 use drive::Drive;
 use export::PageOptions;
@@ -42,9 +43,9 @@ use families::LEAVES;
 use std::process::exit;
 use std::time::Instant;
 
-const USAGE: &str = "usage: oracle leaves|bundles|parts|checks PROGRAM WORDS... | \
+const USAGE: &str = "usage: oracle leaves|bundles|parts|writes|checks PROGRAM WORDS... | \
     oracle builds all|FAMILY,.. PROGRAM WORDS... | oracle files PROGRAM WORDS... <PATHS | oracle alone | \
-    oracle vectors|build-vectors|part-vectors DIR | oracle references | \
+    oracle vectors|build-vectors|part-vectors|write-vectors DIR | oracle references | \
     oracle export|compile OPTIONS ENDING";
 
 fn main() {
@@ -54,6 +55,7 @@ fn main() {
         ["leaves", _, ..] => leaves(&words[1..]),
         ["bundles", _, ..] => exit(i32::from(cases::compare("bundle", &bundle::FAMILIES, &words[1..]) > 0)),
         ["parts", _, ..] => exit(i32::from(cases::compare("parts", &part_families::FAMILIES, &words[1..]) > 0)),
+        ["writes", _, ..] => exit(i32::from(writes::compare(&words[1..]) > 0)),
         ["checks", _, ..] => checks(&words[1..]),
         ["builds", families, _, ..] => builds(families, &words[2..]),
         ["files", _, ..] => exit(i32::from(files::compare(&words[1..]) > 0)),
@@ -61,6 +63,7 @@ fn main() {
         ["vectors", folder] => vectors::write(folder),
         ["build-vectors", folder] => vectors::append(folder, &build_vectors::chosen(), 3_000_000),
         ["part-vectors", folder] => vectors::append(folder, &part_vectors::fixed(), 3_500_000),
+        ["write-vectors", folder] => vectors::append(folder, &writes::fixed(), 700_000),
         ["references"] => references::print(),
         ["export", bits, ending] => export::print(page_options(bits, ending)),
         ["compile", bits, ending] => compile::print(page_options(bits, ending)),
