@@ -1,5 +1,5 @@
 -- A run of blocks in two parts, and a run at the front of more bytes. Assumes nothing.
-use mathlib.Core.Path.{_≡_, refl, sym, ap, _∙_}
+use mathlib.Core.Path.{_≡_, refl}
 use mathlib.Core.List.{List, _++_, append-assoc}
 use Prim.Native.Nat.{ℕ, zero, suc, _+_, _-_, _*_, _≤_, min}
 use native.Mathlib.Nat.{zero-add, suc-add, mul-zero, mul-suc, sub-zero}

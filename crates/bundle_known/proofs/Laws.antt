@@ -1,8 +1,8 @@
 -- What the code goes by: a run's blocks that are there, the text blocks, the event blocks, and block 0. Assumes nothing.
-use mathlib.Core.Path.{_≡_, refl, sym, _∙_}
-use mathlib.Core.Bool.{Bool, true, false, _&&_}
+use mathlib.Core.Path.{_≡_, sym, _∙_}
+use mathlib.Core.Bool.{true, false, _&&_}
 use mathlib.Core.List.{List}
-use Prim.Native.Nat.{ℕ, _+_, _-_, _*_, _/_, _≤_, _<_, min}
+use Prim.Native.Nat.{ℕ, _+_, _-_, _*_, _≤_, _<_, min}
 use native.Mathlib.Omega.{arith}
 use borrow.Author.Tests.{leb-true, lt-leb, le-leb}
 use lib.Dec.{leb}
@@ -16,7 +16,7 @@ use Rattle.block.specs.declared.Verdict.the-variants.{Good, Bad}
 use Rattle.block.specs.Block.{editionIn, demand, judgeBlock}
 use Rattle.block.proofs.Block.{demanded-both, both-good}
 use Rattle.block_run.specs.Run.{judgeRun, heldIn}
-use Rattle.bundle.specs.Bundle.{blocksFor, textLength, eventCount, eventLength, judgeHeader}
+use Rattle.bundle.specs.Bundle.{textLength, eventCount, judgeHeader}
 use Rattle.bundle.specs.Sizes.{mostText, mostEvents, headerUsed, headerKind, textKind, eventKind}
 use Rattle.bundle.proofs.Bundle.{rest}
 use Rattle.bundle_known.specs.declared.Known.{Known}

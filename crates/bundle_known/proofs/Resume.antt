@@ -1,24 +1,23 @@
 -- Bytes that come in two parts come to what both together come to; and what holds of what they come to. Assumes nothing.
 use mathlib.Core.Path.{_≡_, refl, sym, ap, _∙_}
 use mathlib.Core.Logic.{⊎-elim}
-use mathlib.Core.Bool.{Bool, true, false, _&&_}
-use mathlib.Core.List.{List, [], _++_}
+use mathlib.Core.Bool.{Bool, true, false}
+use mathlib.Core.List.{List, _++_}
 use Prim.Native.Nat.{ℕ, _+_, _≤_, _<_}
 use native.Mathlib.Decide.{decLe}
 use native.Mathlib.Omega.{arith}
 use borrow.Author.Tests.{lt-leb, le-leb}
 use lib.Dec.{leb}
-use lib.ListN.{length, take, drop, length-append, length-drop}
+use lib.ListN.{length, drop, length-append, length-drop}
 use lib.Seq.{take-append-le, drop-append-le}
 use Rattle.lent.specs.Bytes.{if_then_else_}
-use Rattle.block.specs.declared.Refusal.{Refusal}
 use Rattle.block.specs.declared.Verdict.{Verdict}
 use Rattle.block.specs.declared.Verdict.the-variants.{Good, Bad}
-use Rattle.block.specs.Block.{_before_, field, editionIn}
-use Rattle.bundle.specs.Bundle.{textLength, eventCount, judgeHeader}
+use Rattle.block.specs.Block.{_before_, field}
+use Rattle.bundle.specs.Bundle.{judgeHeader}
 use Rattle.bundle.specs.Sizes.{textKind, eventKind}
 use Rattle.bundle_known.specs.declared.Known.{Known}
-use Rattle.bundle_known.specs.Known.{saidIn, indexOf, withText, withEvents, taken, cameThen, judgeTaken, fillTaken, leftOf, Came, goes, stops, _then_, unless, textOf, eventsOf, runsOf, advanceOf}
+use Rattle.bundle_known.specs.Known.{saidIn, indexOf, withText, withEvents, taken, cameThen, judgeTaken, fillTaken, leftOf, Came, goes, _then_, unless, textOf, eventsOf, runsOf, advanceOf}
 use Rattle.bundle_known.proofs.Runs.{none-there, none-due, none-judged, none-came, none-filled, all-left, taken-all, came-both, left-both, fill-both, judge-both}
 
 pub unless-before : (u v : Verdict) (c : Came) → unless (u before v) c ≡ unless u (unless v c)

@@ -1,16 +1,14 @@
 -- A run of blocks that comes in two parts: what is taken of the first and then of the second is what is taken of both. Assumes nothing.
-use mathlib.Core.Path.{_≡_, refl, sym, ap, _∙_}
+use mathlib.Core.Path.{_≡_, sym, ap, _∙_}
 use mathlib.Core.Logic.{_⊎_, inl, inr, ⊎-elim}
-use mathlib.Core.List.{List, [], _++_}
+use mathlib.Core.List.{List, _++_}
 use Prim.Native.Nat.{ℕ, _+_, _-_, _*_, _/_, _≤_, _<_, min}
 use native.Mathlib.Decide.{decLe}
-use native.Mathlib.Nat.{sub-zero}
 use native.Mathlib.Omega.{arith}
 use lib.ListN.{length, drop, length-append, length-drop}
 use lib.Seq.{drop-drop, drop-append-le}
 use Rattle.lent.specs.Fill.{fill, past}
 use Rattle.lent.proofs.Laws.{fill-none, fill-out, fill-fill, length-fill}
-use Rattle.block.specs.declared.Verdict.{Verdict}
 use Rattle.block.specs.declared.Verdict.the-variants.{Good}
 use Rattle.block.specs.Block.{_before_}
 use Rattle.block_run.specs.Run.{judgeRun, heldIn}

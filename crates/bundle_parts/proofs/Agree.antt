@@ -1,5 +1,5 @@
 -- The reader in parts and the whole-file reader agree where no length fault is present, and where there is no other fault. Assumes nothing.
-use mathlib.Core.Path.{_≡_, refl, sym, ap, _∙_}
+use mathlib.Core.Path.{_≡_, refl}
 use mathlib.Core.List.{List}
 use Prim.Native.Nat.{ℕ, _≤_}
 use native.Mathlib.Decide.{decLe}
@@ -7,7 +7,6 @@ use native.Mathlib.Omega.{arith}
 use borrow.Author.Tests.{le-leb}
 use lib.ListN.{length}
 use Rattle.block.specs.declared.Refusal.{Refusal}
-use Rattle.block.specs.declared.Refusal.the-variants.{Broken}
 use Rattle.block.specs.declared.Verdict.{Verdict}
 use Rattle.block.specs.declared.Verdict.the-variants.{Good, Bad}
 use Rattle.block.specs.Block.{_before_}
@@ -15,7 +14,7 @@ use Rattle.block.proofs.Block.{both-good}
 use Rattle.bundle.specs.Bundle.{judgeLength, judgeHeader, judgeCount, judgeText, judgeEvents, judgeBundle, textIn, eventsIn}
 use Rattle.bundle.proofs.Bundle.{whole-blocks}
 use Rattle.bundle_parts.specs.Late.{judgeTexts, judgeRecords, judgeCame, judgeLate, textSoFar, eventsSoFar}
-use Rattle.bundle_parts.proofs.Ends.{asked, exact-good, other-bad, texts-all, records-all}
+use Rattle.bundle_parts.proofs.Ends.{asked, other-bad, texts-all, records-all}
 
 before-good : (v : Verdict) → (v before Good) ≡ v
 before-good Good = refl

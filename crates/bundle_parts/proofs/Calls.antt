@@ -1,11 +1,11 @@
 -- What the calls go by: the answer is repeated, refusal 1, and a part or the end. Assumes nothing.
 use mathlib.Core.Path.{_≡_, refl, sym, ap, _∙_}
-use mathlib.Core.Bool.{Bool, true, false, not, _&&_, _||_, or-true}
+use mathlib.Core.Bool.{Bool, true, false, not, _&&_, or-true}
 use mathlib.Core.List.{List, [], _∷_, _++_}
-use Prim.Native.Nat.{ℕ, suc, _≤_, _<_, min}
+use Prim.Native.Nat.{ℕ, _<_, min}
 use native.Mathlib.Decide.{decLe}
 use native.Mathlib.Omega.{arith}
-use lib.ListN.{length, take, length-append, length-take, length-replicate}
+use lib.ListN.{length, take, length-take, length-replicate}
 use Rattle.lent.specs.Bytes.{if_then_else_}
 use Rattle.lent.specs.Fill.{zeros}
 use Rattle.block.specs.declared.Refusal.the-variants.{Short, Broken}
@@ -13,11 +13,11 @@ use Rattle.bundle.specs.declared.Answer.{Answer}
 use Rattle.bundle.specs.declared.Answer.the-variants.{Bundle}
 use Rattle.bundle_known.specs.declared.Known.{Known}
 use Rattle.bundle_known.specs.Known.{unknown, wholeOf, advanceOf}
-use Rattle.bundle_known.proofs.Stepped.{whole-stays, whole-begun}
+use Rattle.bundle_known.proofs.Stepped.{whole-stays}
 use Rattle.bundle_parts.specs.declared.Progress.{Progress}
 use Rattle.bundle_parts.specs.declared.Progress.the-variants.{More, Done}
 use Rattle.bundle_parts.specs.declared.State.{State}
-use Rattle.bundle_parts.specs.Feed.{Stand, standing, startOf, isEmpty, refusedAt, kept, settled, fresh, roomy, feedOf, endOf}
+use Rattle.bundle_parts.specs.Feed.{standing, startOf, isEmpty, refusedAt, kept, settled, fresh, feedOf, endOf}
 use Rattle.bundle_parts.specs.Private.{isRoomy, clearedUnless, restOf, TookMore, Finished}
 use Rattle.bundle_parts.proofs.Taking.{settled-long}
 

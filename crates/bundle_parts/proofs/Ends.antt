@@ -1,18 +1,16 @@
 -- At the end: all blocks and no byte behind them have come exactly where the length and the count are right. Assumes nothing.
-use mathlib.Core.Path.{_≡_, refl, sym, ap, _∙_}
-use mathlib.Core.Bool.{Bool, true, false, not, _&&_, _||_}
+use mathlib.Core.Path.{_≡_, refl, _∙_}
+use mathlib.Core.Bool.{true, false, not, _&&_}
 use mathlib.Core.List.{List, [], _∷_}
 use Prim.Native.Nat.{ℕ, _+_, _-_, _*_, _/_, _%_, _≤_, _<_, min}
 use native.Mathlib.Decide.{decLe}
 use native.Mathlib.Nat.{sub-zero}
 use native.Mathlib.Omega.{arith}
 use borrow.Author.Tests.{lt-ltb, le-ltb, le-leb, lt-leb, eq-eqb, ne-eqb}
-use lib.Dec.{eqb, leb, ltb}
-use lib.ListN.{length, drop, length-drop}
+use lib.ListN.{length, length-drop}
 use Rattle.block.specs.declared.Refusal.the-variants.{Broken}
-use Rattle.block.specs.declared.Verdict.{Verdict}
 use Rattle.block.specs.declared.Verdict.the-variants.{Good, Bad}
-use Rattle.block.specs.Block.{_before_, demand}
+use Rattle.block.specs.Block.{_before_}
 use Rattle.bundle.specs.Bundle.{blocksFor, textLength, eventLength, textBlocks, eventBlocks, judgeLength, judgeCount}
 use Rattle.bundle_known.specs.Known.{wholeOf, taken}
 use Rattle.bundle_parts.specs.Late.{textsCame, recordsCame}

@@ -1,26 +1,22 @@
 -- The bytes that have come, from the first on: what the machine makes of them is what the definition on the joined bytes says. Assumes nothing.
 use mathlib.Core.Path.{_≡_, refl, sym, ap, _∙_}
-use mathlib.Core.Bool.{Bool, true, false, not, _&&_}
-use mathlib.Core.List.{List, []}
-use Prim.Native.Nat.{ℕ, _+_, _-_, _*_, _/_, _%_, _≤_, _<_, min}
+use mathlib.Core.Bool.{true}
+use mathlib.Core.List.{List}
+use Prim.Native.Nat.{ℕ, _+_, _-_, _*_, _/_, _≤_, _<_}
 use native.Mathlib.Decide.{decLe}
 use native.Mathlib.Nat.{sub-zero}
 use native.Mathlib.Omega.{arith}
-use borrow.Author.Tests.{le-leb, lt-leb}
-use lib.Dec.{eqb, leb}
+use borrow.Author.Tests.{le-leb}
 use lib.ListN.{length, drop, length-drop}
 use lib.Seq.{drop-drop}
-use Rattle.lent.specs.Bytes.{if_then_else_}
 use Rattle.lent.specs.Fill.{fill}
-use Rattle.block.specs.declared.Verdict.{Verdict}
-use Rattle.block.specs.declared.Verdict.the-variants.{Good, Bad}
 use Rattle.block.specs.Block.{editionIn, _before_}
 use Rattle.block_run.specs.Run.{judgeRun, heldIn}
-use Rattle.bundle.specs.Bundle.{blocksFor, textLength, eventLength, textBlocks, eventBlocks, textPart, eventPart, judgeHeader}
+use Rattle.bundle.specs.Bundle.{blocksFor, textLength, eventLength, textBlocks, eventPart, judgeHeader}
 use Rattle.bundle.specs.Sizes.{textRoom, textKind, eventKind}
 use Rattle.bundle_known.specs.declared.Known.{Known}
-use Rattle.bundle_known.specs.Known.{unknown, saidIn, indexOf, wholeOf, taken, cameThen, judgeTaken, fillTaken, leftOf, Came, goes, stops, _then_, unless, runsOf, advanceOf}
-use Rattle.bundle_known.proofs.Resume.{unless-before, unless-same, header-there, runs-form, textTaken, behindText, leftText, eventsTaken, behindEvents}
+use Rattle.bundle_known.specs.Known.{unknown, saidIn, taken, cameThen, judgeTaken, fillTaken, leftOf, goes, unless, runsOf, advanceOf}
+use Rattle.bundle_known.proofs.Resume.{unless-before, header-there, runs-form, textTaken, behindText, leftText, eventsTaken, behindEvents}
 use Rattle.bundle_known.proofs.Stepped.{then-goes}
 use Rattle.bundle_parts.specs.Late.{textsCame, recordsCame, judgeTexts, judgeRecords, judgeCame, textSoFar, eventsSoFar}
 

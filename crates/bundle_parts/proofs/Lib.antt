@@ -4,4 +4,6 @@ pub mod Joined
 pub mod Late
 pub mod Ends
 pub mod Agree
+pub mod Start
+pub mod Closing
 pub mod Parts

@@ -10,22 +10,21 @@ use borrow.Author.Tests.{lt-ltb}
 use lib.Dec.{ltb}
 use lib.ListN.{length, take, drop, length-append, length-take, drop-of-length-le, take-append-drop}
 use lib.Seq.{take-all}
-use Rattle.lent.specs.Bytes.{if_then_else_}
 use Rattle.lent.specs.Fill.{fill, zeros, Filled}
-use Rattle.lent.proofs.Laws.{take-fill, length-fill, fill-cut}
+use Rattle.lent.proofs.Laws.{take-fill, fill-cut}
 use Rattle.block.specs.declared.Refusal.{Refusal}
 use Rattle.bundle.specs.declared.Answer.the-variants.{Refused}
 use Rattle.bundle.proofs.Bundle.{rest}
 use Rattle.bundle_known.specs.declared.Known.{Known}
 use Rattle.bundle_known.specs.declared.Step.{Step}
 use Rattle.bundle_known.specs.declared.Step.the-variants.{Next, Stop}
-use Rattle.bundle_known.specs.Known.{unknown, wholeOf, Came, goes, stops, _then_, advanceOf}
+use Rattle.bundle_known.specs.Known.{unknown, wholeOf, Came, goes, stops, advanceOf}
 use Rattle.bundle_known.specs.Step.{Advanced}
 use Rattle.bundle_known.proofs.Resume.{advance-both}
 use Rattle.bundle_known.proofs.Stepped.{stepped, block-taken, short-stays}
 use Rattle.bundle_parts.specs.declared.Progress.the-variants.{More, Done}
 use Rattle.bundle_parts.specs.declared.State.{State}
-use Rattle.bundle_parts.specs.Feed.{Stand, standing, isEmpty, refusedAt, kept, settled}
+use Rattle.bundle_parts.specs.Feed.{standing, isEmpty, refusedAt, kept, settled}
 use Rattle.bundle_parts.specs.Private.{clearedUnless}
 
 -- ---- both buffers cleared

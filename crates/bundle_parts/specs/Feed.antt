@@ -8,7 +8,6 @@ use Rattle.lent.specs.Bytes.{if_then_else_}
 use Rattle.lent.specs.Fill.{zeros}
 use Rattle.block.specs.declared.Refusal.{Refusal}
 use Rattle.block.specs.declared.Refusal.the-variants.{Short, Broken}
-use Rattle.bundle.specs.declared.Answer.{Answer}
 use Rattle.bundle.specs.declared.Answer.the-variants.{Bundle, Refused}
 use Rattle.bundle.specs.Sizes.{leastRoom}
 use Rattle.bundle_known.specs.declared.Known.{Known}

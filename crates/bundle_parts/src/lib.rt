@@ -1,13 +1,13 @@
 // The note bundle as it comes: in parts of any length, of which a block's rest is kept between two calls.
-ghost use Prim.Native.Nat.{ℕ, _≤_, _<_, min};
-ghost use mathlib.Core.Bool.{Bool, true, false};
+ghost use Prim.Native.Nat.{ℕ, _<_};
+ghost use mathlib.Core.Bool.{true, false};
 ghost use mathlib.Core.List.{List, _++_};
 ghost use mathlib.Core.Logic.{_⊎_};
 ghost use mathlib.Core.Path.{_≡_};
 ghost use lib.ListN.{length, take};
 ghost use Rattle.lent.specs.Fill.{zeros};
 ghost use Rattle.bundle_known.specs.Known.{wholeOf, advanceOf};
-ghost use Rattle.bundle_parts.specs.Feed.{standing, standOf, startOf, refusedAt, kept, settled, fresh, feedOf, endOf};
+ghost use Rattle.bundle_parts.specs.Feed.{standing, standOf, startOf, refusedAt, kept, settled, feedOf, endOf};
 ghost use Rattle.bundle_parts.specs.Private.{isRoomy, clearedUnless, TookMore, Finished};
 use block::Refusal;
 use block_run::BLOCK;

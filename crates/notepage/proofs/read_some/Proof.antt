@@ -1,5 +1,5 @@
 -- By what the read answers. Assumes nothing.
-use Rattle.notepage.proofs.Laws.{turned-more, turned-none}
+use Rattle.notepage.proofs.Laws.{turned-none}
 use borrow.Author.Needs.{needs}
 use Rattle.notepage.proofs.read_some.Statement.{statement}
 use Rattle.notepage.proofs.read_some.Tie as tie
