@@ -14,38 +14,38 @@ use Rattle.lent.specs.Bytes.{if_then_else_}
 use Rattle.block.specs.declared.Verdict.{Verdict}
 use Rattle.block.specs.declared.Verdict.the-variants.{Good, Bad}
 use Rattle.block.specs.Block.{_before_, field}
-use Rattle.bundle.specs.Bundle.{judgeHeader}
-use Rattle.bundle.specs.Sizes.{textKind, eventKind}
+use Rattle.bundle.specs.Bundle.{blocksFor, judgeHeader}
+use Rattle.bundle.specs.Sizes.{textRoom, textKind, eventKind}
 use Rattle.bundle_known.specs.declared.Known.{Known}
-use Rattle.bundle_known.specs.Known.{saidIn, indexOf, withText, withEvents, taken, cameThen, judgeTaken, fillTaken, leftOf, Came, goes, _then_, unless, textOf, eventsOf, runsOf, advanceOf}
+use Rattle.bundle_known.specs.Known.{saidIn, indexOf, withText, withEvents, taken, cameThen, judgeTaken, fillTaken, leftOf, Came, goes, _then_, unless, taking, textOf, eventsOf, runsOf, advanceOf}
 use Rattle.bundle_known.proofs.Runs.{none-there, none-due, none-judged, none-came, none-filled, all-left, taken-all, came-both, left-both, fill-both, judge-both}
 
 pub unless-before : (u v : Verdict) (c : Came) → unless (u before v) c ≡ unless u (unless v c)
 unless-before Good v c = refl
 unless-before (Bad r) v c = refl
 
--- ---- where nothing is taken
+-- ---- one run: where nothing is taken, and in two parts
+
+module _ (edition kind index came total : ℕ) (d : List ℕ) (f : ℕ → List ℕ → List ℕ → Came) where
+  taking-none : (l : List ℕ) → taken came total l ≡ 0 → taking edition kind index came total d l f ≡ f came d l
+  taking-none l h = rw (none-judged came total l h edition kind index, none-came came total l h, none-filled came total l h d, all-left came total l h)
+
+  taking-both : (a b : List ℕ) (index′ : ℕ) → index′ + blocksFor textRoom came ≡ index + blocksFor textRoom (cameThen came total a) → taking edition kind index came total d (a ++ b) f
+      ≡ unless (judgeTaken edition kind index came total a) (taking edition kind index′ (cameThen came total a) total (fillTaken came total d a) (leftOf came total a ++ b) f)
+  taking-both a b index′ p =
+      rw (judge-both came total a b edition kind index index′ p, came-both came total a b, fill-both came total a b d, left-both came total a b)
+      (unless-before (judgeTaken edition kind index came total a) (judgeTaken edition kind index′ (cameThen came total a) total (leftOf came total a ++ b)) _)
+
+-- ---- the two runs where nothing is taken
 
 module _ (k : Known) (t e l : List ℕ) where
   text-none : taken (k .«text_came») (k .text) l ≡ 0 → textOf k t e l ≡ goes k t e l
   unfolding textOf
-  text-none h =
-      rw (
-        none-judged (k .«text_came») (k .text) l h (k .edition) textKind (indexOf k),
-        none-came (k .«text_came») (k .text) l h,
-        none-filled (k .«text_came») (k .text) l h t,
-        all-left (k .«text_came») (k .text) l h,
-      )
+  text-none = taking-none (k .edition) textKind (indexOf k) (k .«text_came») (k .text) t (λ came t′ left. goes (withText k came) t′ e left) l
 
   events-none : taken (k .«events_came») (k .events) l ≡ 0 → eventsOf k t e l ≡ goes k t e l
   unfolding eventsOf
-  events-none h =
-      rw (
-        none-judged (k .«events_came») (k .events) l h (k .edition) eventKind (indexOf k),
-        none-came (k .«events_came») (k .events) l h,
-        none-filled (k .«events_came») (k .events) l h e,
-        all-left (k .«events_came») (k .events) l h,
-      )
+  events-none = taking-none (k .edition) eventKind (indexOf k) (k .«events_came») (k .events) e (λ came e′ left. goes (withEvents k came) t e′ left) l
 
   pub text-done : k .text ≤ k .«text_came» → textOf k t e l ≡ goes k t e l
   text-done h = text-none (none-due (k .«text_came») (k .text) l h)
@@ -60,7 +60,7 @@ pub runs-short : (k : Known) (t e l : List ℕ) → length l < 512 → runsOf k 
 unfolding runsOf
 runs-short k t e l h = ap (λ (c : Came). c then eventsOf) (text-none k t e l (none-there (k .«text_came») (k .text) l h)) ∙ events-short k t e l h
 
--- ---- a run in two parts
+-- ---- each of them in two parts
 
 module _ (k : Known) (t e a b : List ℕ) where
   textLater : Known
@@ -70,15 +70,7 @@ module _ (k : Known) (t e a b : List ℕ) where
       ≡ unless (judgeTaken (k .edition) textKind (indexOf k) (k .«text_came») (k .text) a)
       (textOf textLater (fillTaken (k .«text_came») (k .text) t a) e (leftOf (k .«text_came») (k .text) a ++ b))
   unfolding textOf textLater
-  text-both =
-      rw (
-        judge-both (k .«text_came») (k .text) a b (k .edition) textKind (indexOf k) (indexOf textLater) (omega arith),
-        came-both (k .«text_came») (k .text) a b,
-        fill-both (k .«text_came») (k .text) a b t,
-        left-both (k .«text_came») (k .text) a b,
-      )
-      (unless-before (judgeTaken (k .edition) textKind (indexOf k) (k .«text_came») (k .text) a)
-      (judgeTaken (k .edition) textKind (indexOf textLater) (cameThen (k .«text_came») (k .text) a) (k .text) (leftOf (k .«text_came») (k .text) a ++ b)) _)
+  text-both = taking-both (k .edition) textKind (indexOf k) (k .«text_came») (k .text) t (λ came t′ left. goes (withText k came) t′ e left) a b (indexOf textLater) (omega arith)
 
   eventsLater : Known
   eventsLater = withEvents k (cameThen (k .«events_came») (k .events) a)
@@ -87,15 +79,7 @@ module _ (k : Known) (t e a b : List ℕ) where
       ≡ unless (judgeTaken (k .edition) eventKind (indexOf k) (k .«events_came») (k .events) a)
       (eventsOf eventsLater t (fillTaken (k .«events_came») (k .events) e a) (leftOf (k .«events_came») (k .events) a ++ b))
   unfolding eventsOf eventsLater
-  events-both =
-      rw (
-        judge-both (k .«events_came») (k .events) a b (k .edition) eventKind (indexOf k) (indexOf eventsLater) (omega arith),
-        came-both (k .«events_came») (k .events) a b,
-        fill-both (k .«events_came») (k .events) a b e,
-        left-both (k .«events_came») (k .events) a b,
-      )
-      (unless-before (judgeTaken (k .edition) eventKind (indexOf k) (k .«events_came») (k .events) a)
-      (judgeTaken (k .edition) eventKind (indexOf eventsLater) (cameThen (k .«events_came») (k .events) a) (k .events) (leftOf (k .«events_came») (k .events) a ++ b)) _)
+  events-both = taking-both (k .edition) eventKind (indexOf k) (k .«events_came») (k .events) e (λ came e′ left. goes (withEvents k came) t e′ left) a b (indexOf eventsLater) (omega arith)
 
 -- ---- both runs in two parts
 

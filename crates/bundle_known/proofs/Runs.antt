@@ -95,11 +95,11 @@ module _ (came total : ℕ) (a : List ℕ) where
   length-filled d = length-fill d came (heldIn textRoom (taken came total a) (total - came) a)
 
   module _ (b : List ℕ) where
-    then : ℕ
-    then = taken (cameThen came total a) total (leftOf came total a ++ b)
+    secondTaken : ℕ
+    secondTaken = taken (cameThen came total a) total (leftOf came total a ++ b)
 
-    taken-both : taken came total (a ++ b) ≡ taken came total a + then
-    unfolding then
+    taken-both : taken came total (a ++ b) ≡ taken came total a + secondTaken
+    unfolding secondTaken
     taken-both =
         let m = length-append (leftOf came total a) b ∙ ap (λ (n : ℕ). n + length b) length-left in
         rw length-append
@@ -109,55 +109,55 @@ module _ (came total : ℕ) (a : List ℕ) where
         ])
 
     pub came-both : cameThen came total (a ++ b) ≡ cameThen (cameThen came total a) total (leftOf came total a ++ b)
-    unfolding then
+    unfolding secondTaken
     came-both =
-        let e = counted-came (total - came) (total - cameThen came total a) (taken came total a) then due-then in
+        let e = counted-came (total - came) (total - cameThen came total a) (taken came total a) secondTaken due-then in
         rw taken-both (omega (arith, e))
 
     left-drop : drop (512 * taken came total a) (a ++ b) ≡ leftOf came total a ++ b
     left-drop = drop-append-le (512 * taken came total a) a b taken-there
 
     pub left-both : leftOf came total (a ++ b) ≡ leftOf (cameThen came total a) total (leftOf came total a ++ b)
-    unfolding then
+    unfolding secondTaken
     left-both =
-        let d : 512 * (taken came total a + then) ≡ 512 * taken came total a + 512 * then = omega arith in
-        rw (taken-both, d, ← drop-drop (512 * then) (512 * taken came total a) (a ++ b), left-drop)
+        let d : 512 * (taken came total a + secondTaken) ≡ 512 * taken came total a + 512 * secondTaken = omega arith in
+        rw (taken-both, d, ← drop-drop (512 * secondTaken) (512 * taken came total a) (a ++ b), left-drop)
 
     held-both : heldIn textRoom (taken came total (a ++ b)) (total - came) (a ++ b)
-        ≡ heldIn textRoom (taken came total a) (total - came) a ++ heldIn textRoom then (total - cameThen came total a) (leftOf came total a ++ b)
-    unfolding then
+        ≡ heldIn textRoom (taken came total a) (total - came) a ++ heldIn textRoom secondTaken (total - cameThen came total a) (leftOf came total a ++ b)
+    unfolding secondTaken
     held-both =
         rw (
           taken-both,
-          held-split textRoom (taken came total a) then (total - came) (a ++ b),
+          held-split textRoom (taken came total a) secondTaken (total - came) (a ++ b),
           held-front textRoom (taken came total a) (total - came) a b (omega arith) taken-there,
           left-drop,
           ← due-then,
         )
 
     pub fill-both : (d : List ℕ) → fillTaken came total d (a ++ b) ≡ fillTaken (cameThen came total a) total (fillTaken came total d a) (leftOf came total a ++ b)
-    unfolding fillTaken then
+    unfolding fillTaken secondTaken
     fill-both d =
         let first = heldIn textRoom (taken came total a) (total - came) a in
-        let second = heldIn textRoom then (total - cameThen came total a) (leftOf came total a ++ b) in
+        let second = heldIn textRoom secondTaken (total - cameThen came total a) (leftOf came total a ++ b) in
         let n = length-some textRoom (taken came total a) (total - came) a (omega arith) taken-there in
         ap (fill d came) held-both ∙ sym (fill-on d came first second) ∙ ap (λ (k : ℕ). fill (fill d came first) (came + k) second) n
 
     judge-next : (edition kind index : ℕ) → judgeTaken edition kind index came total (a ++ b)
         ≡ (judgeTaken edition kind index came total a before judgeTaken edition kind (index + taken came total a) (cameThen came total a) total (leftOf came total a ++ b))
-    unfolding judgeTaken then
+    unfolding judgeTaken secondTaken
     judge-next edition kind index =
         rw (
           taken-both,
-          judge-split edition kind textRoom (taken came total a) then index (total - came) (a ++ b),
+          judge-split edition kind textRoom (taken came total a) secondTaken index (total - came) (a ++ b),
           judge-front edition kind textRoom (taken came total a) index (total - came) a b taken-there,
           left-drop,
           due-then,
         )
 
     -- the number of the next block is told by what has come, or there is none
-    index-next : (then ≡ 0) ⊎ (blocksFor textRoom (cameThen came total a) ≡ blocksFor textRoom came + taken came total a)
-    unfolding then
+    index-next : (secondTaken ≡ 0) ⊎ (blocksFor textRoom (cameThen came total a) ≡ blocksFor textRoom came + taken came total a)
+    unfolding secondTaken
     index-next =
         elim (decLe (textRoom * taken came total a) (total - came)) [
           | yes h ↦ inr (omega arith)
@@ -166,7 +166,7 @@ module _ (came total : ℕ) (a : List ℕ) where
 
     pub judge-both : (edition kind index index′ : ℕ) → index′ + blocksFor textRoom came ≡ index + blocksFor textRoom (cameThen came total a) → judgeTaken edition kind index came total (a ++ b)
         ≡ (judgeTaken edition kind index came total a before judgeTaken edition kind index′ (cameThen came total a) total (leftOf came total a ++ b))
-    unfolding then
+    unfolding secondTaken
     judge-both edition kind index index′ p =
         judge-next edition kind index
         ∙ ⊎-elim

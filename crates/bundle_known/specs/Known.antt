@@ -1,4 +1,4 @@
--- What is known of a bundle while it comes, and what more bytes of it add. Assumes nothing.
+-- What is known of a bundle while it comes, and what more bytes of it add, from any state. For the parts of one bundle nobody has to read this: `ended` and `fed` of bundle_parts say it by the joined bytes alone. Assumes nothing.
 use mathlib.Core.Bool.{Bool, true, false, _&&_}
 use mathlib.Core.List.{List}
 use Prim.Native.Nat.{ℕ, _+_, _-_, _*_, _/_, min}
@@ -76,16 +76,16 @@ abbrev pub unless : Verdict → Came → Came
 unless Good c = c
 unless (Bad r) c = stops r
 
+-- a run's blocks that are there: one is refused, or f goes on from how much has come, the buffer and what is left
+abbrev pub taking : (edition kind index came total : ℕ) (d l : List ℕ) → (ℕ → List ℕ → List ℕ → Came) → Came
+taking edition kind index came total d l f = unless (judgeTaken edition kind index came total l) (f (cameThen came total l) (fillTaken came total d l) (leftOf came total l))
+
 -- the text blocks, then the event blocks, as far as they have come
 unfoldable pub textOf : Known → (t e l : List ℕ) → Came
-textOf k t e l =
-    unless (judgeTaken (k .edition) textKind (indexOf k) (k .«text_came») (k .text) l)
-    (goes (withText k (cameThen (k .«text_came») (k .text) l)) (fillTaken (k .«text_came») (k .text) t l) e (leftOf (k .«text_came») (k .text) l))
+textOf k t e l = taking (k .edition) textKind (indexOf k) (k .«text_came») (k .text) t l (λ came t′ left. goes (withText k came) t′ e left)
 
 unfoldable pub eventsOf : Known → (t e l : List ℕ) → Came
-eventsOf k t e l =
-    unless (judgeTaken (k .edition) eventKind (indexOf k) (k .«events_came») (k .events) l)
-    (goes (withEvents k (cameThen (k .«events_came») (k .events) l)) t (fillTaken (k .«events_came») (k .events) e l) (leftOf (k .«events_came») (k .events) l))
+eventsOf k t e l = taking (k .edition) eventKind (indexOf k) (k .«events_came») (k .events) e l (λ came e′ left. goes (withEvents k came) t e′ left)
 
 unfoldable pub runsOf : Known → (t e l : List ℕ) → Came
 runsOf k t e l = textOf k t e l then eventsOf

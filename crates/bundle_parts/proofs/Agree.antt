@@ -13,7 +13,7 @@ use Rattle.block.specs.Block.{_before_}
 use Rattle.block.proofs.Block.{both-good}
 use Rattle.bundle.specs.Bundle.{judgeLength, judgeHeader, judgeCount, judgeText, judgeEvents, judgeBundle, textIn, eventsIn}
 use Rattle.bundle.proofs.Bundle.{whole-blocks}
-use Rattle.bundle_parts.specs.Late.{judgeTexts, judgeRecords, judgeCame, judgeLate, textSoFar, eventsSoFar}
+use Rattle.bundle_parts.specs.Late.{judgeTextCame, judgeEventsCame, judgeCame, judgeLate, textSoFar, eventsSoFar}
 use Rattle.bundle_parts.proofs.Ends.{asked, other-bad, texts-all, records-all}
 
 before-good : (v : Verdict) → (v before Good) ≡ v
@@ -37,12 +37,12 @@ module _ (l : List ℕ) where
     enough : 512 ≤ length l
     enough = omega arith
 
-    texts-same : judgeTexts l ≡ judgeText l
-    unfolding judgeTexts judgeText
+    texts-same : judgeTextCame l ≡ judgeText l
+    unfolding judgeTextCame judgeText
     texts-same = rw (texts-all l enough (omega arith))
 
-    records-same : judgeRecords l ≡ judgeEvents l
-    unfolding judgeRecords judgeEvents
+    records-same : judgeEventsCame l ≡ judgeEvents l
+    unfolding judgeEventsCame judgeEvents
     records-same = rw (records-all l enough (omega arith))
 
     came-same : judgeCame l ≡ (judgeHeader l before judgeText l before judgeEvents l)
@@ -72,7 +72,7 @@ module _ (l : List ℕ) where
 
   header-good : 512 ≤ length l → judgeCame l ≡ Good → judgeHeader l ≡ Good
   unfolding judgeCame
-  header-good h p = both-good (judgeHeader l) (judgeTexts l before judgeRecords l) (rw (le-leb 512 (length l) h) at p) .0
+  header-good h p = both-good (judgeHeader l) (judgeTextCame l before judgeEventsCame l) (rw (le-leb 512 (length l) h) at p) .0
 
   agree-count : {r : Refusal} → judgeCame l ≡ Good → judgeLength l ≡ Good → judgeCount l ≡ Bad r → judgeLate l ≡ judgeBundle l
   unfolding judgeLate judgeBundle

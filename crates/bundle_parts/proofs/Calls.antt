@@ -17,8 +17,9 @@ use Rattle.bundle_known.proofs.Stepped.{whole-stays}
 use Rattle.bundle_parts.specs.declared.Progress.{Progress}
 use Rattle.bundle_parts.specs.declared.Progress.the-variants.{More, Done}
 use Rattle.bundle_parts.specs.declared.State.{State}
-use Rattle.bundle_parts.specs.Feed.{standing, startOf, isEmpty, refusedAt, kept, settled, fresh, feedOf, endOf}
-use Rattle.bundle_parts.specs.Private.{isRoomy, clearedUnless, restOf, TookMore, Finished}
+use Rattle.bundle_parts.specs.Late.{isRoomy}
+use Rattle.bundle_parts.specs.Feed.{standing, restOf, startOf, isEmpty, refusedAt, kept, settled, fresh, feedOf, endOf}
+use Rattle.bundle_parts.specs.Private.{clearedUnless, TookMore, Finished}
 use Rattle.bundle_parts.proofs.Taking.{settled-long}
 
 pub new-stands : (rest : List ℕ) {s : State} {k : Known} → k ≡ unknown → s ≡ record { known = k; held = 0; over = false; progress = More } → (t e : List ℕ) → standing s rest t e ≡ startOf t e

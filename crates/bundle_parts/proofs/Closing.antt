@@ -46,7 +46,7 @@ module _ (s : Stand) where
       unfolding endOf
       end-broken r = rw (p, q, r)
 
-      end-answered : (wholeOf (s .known) && not (s .over)) ≡ true → endOf s ≡ answered s
+      end-answered : (wholeOf (s .known) && not (s .over)) ≡ true → endOf s ≡ answered (s .over) (s .known) (s .text) (s .events)
       unfolding endOf
       end-answered r = rw (p, q, r)
 

@@ -13,7 +13,7 @@ use Rattle.block.specs.declared.Verdict.the-variants.{Good, Bad}
 use Rattle.block.specs.Block.{_before_}
 use Rattle.bundle.specs.Bundle.{blocksFor, textLength, eventLength, textBlocks, eventBlocks, judgeLength, judgeCount}
 use Rattle.bundle_known.specs.Known.{wholeOf, taken}
-use Rattle.bundle_parts.specs.Late.{textsCame, recordsCame}
+use Rattle.bundle_parts.specs.Late.{textBlocksCame, eventBlocksCame}
 use Rattle.bundle_parts.specs.Feed.{isEmpty}
 use Rattle.bundle_parts.proofs.Late.{knownIn, leftIn, behind, length-behind, texts-taken, records-taken}
 
@@ -66,39 +66,39 @@ held-fewer : (total n came : ℕ) → came ≡ min (500 * n) total → n < block
 held-fewer total n came p q = omega arith
 
 module _ (l : List ℕ) (h : 512 ≤ length l) where
-  text-came : knownIn l h .«text_came» ≡ min (500 * textsCame l) (textLength l)
+  text-came : knownIn l h .«text_came» ≡ min (500 * textBlocksCame l) (textLength l)
   text-came = let s = sub-zero (textLength l) in let n = texts-taken l h in omega arith
 
-  events-came : knownIn l h .«events_came» ≡ min (500 * recordsCame l) (eventLength l)
+  events-came : knownIn l h .«events_came» ≡ min (500 * eventBlocksCame l) (eventLength l)
   events-came = let s = sub-zero (eventLength l) in let n = records-taken l h in omega arith
 
-  length-left : length (leftIn l h) ≡ length l - 512 - 512 * textsCame l - 512 * recordsCame l
+  length-left : length (leftIn l h) ≡ length l - 512 - 512 * textBlocksCame l - 512 * eventBlocksCame l
   length-left = length-drop (512 * taken 0 (eventLength l) (behind l h)) (behind l h) ∙ rw (records-taken l h, length-behind l h)
 
-  pub texts-all : asked l ≤ length l → textsCame l ≡ textBlocks l
+  pub texts-all : asked l ≤ length l → textBlocksCame l ≡ textBlocks l
   texts-all p = omega arith
 
-  pub records-all : asked l ≤ length l → recordsCame l ≡ eventBlocks l
+  pub records-all : asked l ≤ length l → eventBlocksCame l ≡ eventBlocks l
   records-all p = omega arith
 
-  records-fewer : length l < asked l → textBlocks l ≤ length l / 512 - 1 → recordsCame l < eventBlocks l
+  records-fewer : length l < asked l → textBlocks l ≤ length l / 512 - 1 → eventBlocksCame l < eventBlocks l
   records-fewer p w = omega arith
 
   all-came : asked l ≤ length l → wholeOf (knownIn l h) ≡ true
   all-came p =
-      let i = held-all (textLength l) (textsCame l) (knownIn l h .«text_came») text-came (texts-all p) in
-      let j = held-all (eventLength l) (recordsCame l) (knownIn l h .«events_came») events-came (records-all p) in
+      let i = held-all (textLength l) (textBlocksCame l) (knownIn l h .«text_came») text-came (texts-all p) in
+      let j = held-all (eventLength l) (eventBlocksCame l) (knownIn l h .«events_came») events-came (records-all p) in
       rw (le-leb (textLength l) (knownIn l h .«text_came») i, le-leb (eventLength l) (knownIn l h .«events_came») j)
 
   not-all-came : length l < asked l → wholeOf (knownIn l h) ≡ false
   not-all-came p =
       elim (decLe (textBlocks l) (length l / 512 - 1)) [
         | yes w ↦
-            let i = held-all (textLength l) (textsCame l) (knownIn l h .«text_came») text-came (omega arith) in
-            let j = held-fewer (eventLength l) (recordsCame l) (knownIn l h .«events_came») events-came (records-fewer p w) in
+            let i = held-all (textLength l) (textBlocksCame l) (knownIn l h .«text_came») text-came (omega arith) in
+            let j = held-fewer (eventLength l) (eventBlocksCame l) (knownIn l h .«events_came») events-came (records-fewer p w) in
             rw (le-leb (textLength l) (knownIn l h .«text_came») i, lt-leb (eventLength l) (knownIn l h .«events_came») j)
         | no w ↦
-            let i = held-fewer (textLength l) (textsCame l) (knownIn l h .«text_came») text-came (omega arith) in
+            let i = held-fewer (textLength l) (textBlocksCame l) (knownIn l h .«text_came») text-came (omega arith) in
             rw (lt-leb (textLength l) (knownIn l h .«text_came») i)
       ]
 

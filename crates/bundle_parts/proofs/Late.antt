@@ -18,19 +18,19 @@ use Rattle.bundle_known.specs.declared.Known.{Known}
 use Rattle.bundle_known.specs.Known.{unknown, saidIn, taken, cameThen, judgeTaken, fillTaken, leftOf, goes, unless, runsOf, advanceOf}
 use Rattle.bundle_known.proofs.Resume.{unless-before, header-there, runs-form, textTaken, behindText, leftText, eventsTaken, behindEvents}
 use Rattle.bundle_known.proofs.Stepped.{then-goes}
-use Rattle.bundle_parts.specs.Late.{textsCame, recordsCame, judgeTexts, judgeRecords, judgeCame, textSoFar, eventsSoFar}
+use Rattle.bundle_parts.specs.Late.{textBlocksCame, eventBlocksCame, judgeTextCame, judgeEventsCame, judgeCame, textSoFar, eventsSoFar}
 
 module _ (l : List ℕ) (h : 512 ≤ length l) where
   -- ---- the text blocks
 
-  pub texts-taken : taken 0 (textLength l) (drop 512 l) ≡ textsCame l
+  pub texts-taken : taken 0 (textLength l) (drop 512 l) ≡ textBlocksCame l
   texts-taken =
       let n = length-drop 512 l in
       let m : length (drop 512 l) / 512 ≡ length l / 512 - 1 = omega arith in
       rw (m, sub-zero)
 
-  texts-judged : judgeTaken (editionIn l) textKind 1 0 (textLength l) (drop 512 l) ≡ judgeTexts l
-  unfolding judgeTaken judgeTexts
+  texts-judged : judgeTaken (editionIn l) textKind 1 0 (textLength l) (drop 512 l) ≡ judgeTextCame l
+  unfolding judgeTaken judgeTextCame
   texts-judged = rw (texts-taken, sub-zero)
 
   texts-filled : (d : List ℕ) → fillTaken 0 (textLength l) d (drop 512 l) ≡ fill d 0 (textSoFar l)
@@ -40,7 +40,7 @@ module _ (l : List ℕ) (h : 512 ≤ length l) where
   abbrev pub behind : List ℕ
   behind = leftOf 0 (textLength l) (drop 512 l)
 
-  pub length-behind : length behind ≡ length l - 512 - 512 * textsCame l
+  pub length-behind : length behind ≡ length l - 512 - 512 * textBlocksCame l
   length-behind = length-drop (512 * taken 0 (textLength l) (drop 512 l)) (drop 512 l) ∙ rw (texts-taken, length-drop)
 
   -- ---- the event blocks: all text blocks are there, or no event block is
@@ -49,7 +49,7 @@ module _ (l : List ℕ) (h : 512 ≤ length l) where
   next = 1 + blocksFor textRoom (cameThen 0 (textLength l) (drop 512 l)) + blocksFor textRoom 0
 
   module _ (w : textBlocks l ≤ length l / 512 - 1) where
-    there : textsCame l ≡ textBlocks l
+    there : textBlocksCame l ≡ textBlocks l
     there = omega arith
 
     behind-there : behind ≡ eventPart l
@@ -64,7 +64,7 @@ module _ (l : List ℕ) (h : 512 ≤ length l) where
         let s = sub-zero (textLength l) in
         omega arith
 
-    records-there : taken 0 (eventLength l) behind ≡ recordsCame l
+    records-there : taken 0 (eventLength l) behind ≡ eventBlocksCame l
     records-there =
         let n = length-behind in
         let m = there in
@@ -75,15 +75,15 @@ module _ (l : List ℕ) (h : 512 ≤ length l) where
     none-there : taken 0 (eventLength l) behind ≡ 0
     none-there =
         let n = length-behind in
-        let m : textsCame l ≡ length l / 512 - 1 = omega arith in
+        let m : textBlocksCame l ≡ length l / 512 - 1 = omega arith in
         let x : length behind / 512 ≡ 0 = omega arith in
         omega (arith, x)
 
-    none-came : recordsCame l ≡ 0
+    none-came : eventBlocksCame l ≡ 0
     none-came = omega arith
 
-  records-judged : judgeTaken (editionIn l) eventKind next 0 (eventLength l) behind ≡ judgeRecords l
-  unfolding judgeTaken judgeRecords judgeRun
+  records-judged : judgeTaken (editionIn l) eventKind next 0 (eventLength l) behind ≡ judgeEventsCame l
+  unfolding judgeTaken judgeEventsCame judgeRun
   records-judged =
       elim (decLe (textBlocks l) (length l / 512 - 1)) [
         | yes w ↦ rw (records-there w, next-there w, behind-there w, sub-zero)
@@ -99,7 +99,7 @@ module _ (l : List ℕ) (h : 512 ≤ length l) where
         | no w ↦ rw (none-there (omega arith), none-came (omega arith))
       ])
 
-  pub records-taken : taken 0 (eventLength l) behind ≡ recordsCame l
+  pub records-taken : taken 0 (eventLength l) behind ≡ eventBlocksCame l
   records-taken =
       elim (decLe (textBlocks l) (length l / 512 - 1)) [
         | yes w ↦ records-there w
@@ -122,7 +122,7 @@ module _ (l : List ℕ) (h : 512 ≤ length l) where
   abbrev pub leftIn : List ℕ
   leftIn = leftOf 0 (eventLength l) behind
 
-  runs-came : (t e : List ℕ) → runsOf (saidIn l) t e (drop 512 l) ≡ unless (judgeTexts l) (unless (judgeRecords l) (goes knownIn (fill t 0 (textSoFar l)) (fill e 0 (eventsSoFar l)) leftIn))
+  runs-came : (t e : List ℕ) → runsOf (saidIn l) t e (drop 512 l) ≡ unless (judgeTextCame l) (unless (judgeEventsCame l) (goes knownIn (fill t 0 (textSoFar l)) (fill e 0 (eventsSoFar l)) leftIn))
   unfolding textTaken behindText leftText eventsTaken behindEvents
   runs-came t e =
       sym (then-goes (saidIn l) t e (drop 512 l) (runsOf (saidIn l) t e (drop 512 l)))
@@ -135,4 +135,4 @@ module _ (l : List ℕ) (h : 512 ≤ length l) where
       let c = goes knownIn (fill t 0 (textSoFar l)) (fill e 0 (eventsSoFar l)) leftIn in
       header-there unknown t e l refl h
       ∙ rw (runs-came t e, le-leb 512 (length l) h)
-      (ap (unless (judgeHeader l)) (sym (unless-before (judgeTexts l) (judgeRecords l) c)) ∙ sym (unless-before (judgeHeader l) (judgeTexts l before judgeRecords l) c))
+      (ap (unless (judgeHeader l)) (sym (unless-before (judgeTextCame l) (judgeEventsCame l) c)) ∙ sym (unless-before (judgeHeader l) (judgeTextCame l before judgeEventsCame l) c))

@@ -26,7 +26,7 @@ use Rattle.bundle_known.specs.declared.Known.{Known}
 use Rattle.bundle_known.specs.Known.{unknown, wholeOf, goes, unless, advanceOf}
 use Rattle.bundle_known.proofs.Resume.{no-block}
 use Rattle.bundle_parts.specs.declared.Progress.the-variants.{More}
-use Rattle.bundle_parts.specs.Late.{textsCame, recordsCame, judgeTexts, judgeRecords, judgeCame, textSoFar, eventsSoFar}
+use Rattle.bundle_parts.specs.Late.{textBlocksCame, eventBlocksCame, judgeTextCame, judgeEventsCame, judgeCame, textSoFar, eventsSoFar}
 use Rattle.bundle_parts.specs.Feed.{Stand, startOf, isEmpty, refusedAt, kept, settled, roomy, feedOf}
 use Rattle.bundle_parts.specs.Parts.{SoFar, HasFed}
 use Rattle.bundle_parts.proofs.Late.{knownIn, leftIn, came-whole}
@@ -72,7 +72,7 @@ module _ (l t e : List ℕ) (room : roomy t e ≡ true) where
     -- what has come is no longer than the buffers
     header-good : judgeCame l ≡ Good → judgeHeader l ≡ Good
     unfolding judgeCame
-    header-good p = both-good (judgeHeader l) (judgeTexts l before judgeRecords l) (rw (le-leb 512 (length l) h) at p) .0
+    header-good p = both-good (judgeHeader l) (judgeTextCame l before judgeEventsCame l) (rw (le-leb 512 (length l) h) at p) .0
 
     sizes : judgeHeader l ≡ Good → (textLength l ≤ mostText) × (eventCount l ≤ mostEvents)
     unfolding judgeHeader
@@ -93,7 +93,7 @@ module _ (l t e : List ℕ) (room : roomy t e ≡ true) where
         let s = sizes (header-good p) in
         let r = rooms in
         let d = length-drop 512 l in
-        let n = length-some textRoom (textsCame l) (textLength l) (textPart l) (omega arith) (omega arith) in
+        let n = length-some textRoom (textBlocksCame l) (textLength l) (textPart l) (omega arith) (omega arith) in
         rw (le-leb 512 (length l) h, n) (omega arith)
 
     pub events-fit : judgeCame l ≡ Good → length (eventsSoFar l) ≤ length e
@@ -102,7 +102,7 @@ module _ (l t e : List ℕ) (room : roomy t e ≡ true) where
         let s = sizes (header-good p) in
         let r = rooms in
         let d = length-drop (512 * (1 + textBlocks l)) l in
-        let n = length-some textRoom (recordsCame l) (eventLength l) (eventPart l) (omega arith) (omega arith) in
+        let n = length-some textRoom (eventBlocksCame l) (eventLength l) (eventPart l) (omega arith) (omega arith) in
         rw (le-leb 512 (length l) h, n) (omega arith)
 
 -- ---- while more is wanted

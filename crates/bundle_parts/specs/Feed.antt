@@ -1,21 +1,20 @@
--- The reader in parts, call by call, on all inputs: what a part and the end make of a state and the two buffers. Assumes nothing.
+-- The reader in parts, call by call, on all inputs: what a part and the end make of a state and the two buffers. What calls that follow each other come to is said by the joined bytes (Late, Parts). Assumes nothing.
 use mathlib.Core.Bool.{Bool, true, false, not, _&&_, _||_}
 use mathlib.Core.List.{List, [], _∷_, _++_}
 use Prim.Native.Nat.{ℕ, min}
-use lib.Dec.{leb}
 use lib.ListN.{length, take}
 use Rattle.lent.specs.Bytes.{if_then_else_}
 use Rattle.lent.specs.Fill.{zeros}
 use Rattle.block.specs.declared.Refusal.{Refusal}
 use Rattle.block.specs.declared.Refusal.the-variants.{Short, Broken}
 use Rattle.bundle.specs.declared.Answer.the-variants.{Bundle, Refused}
-use Rattle.bundle.specs.Sizes.{leastRoom}
 use Rattle.bundle_known.specs.declared.Known.{Known}
 use Rattle.bundle_known.specs.Known.{unknown, wholeOf, Came, goes, stops, advanceOf}
 use Rattle.bundle_parts.specs.declared.Progress.{Progress}
 use Rattle.bundle_parts.specs.declared.Progress.the-variants.{More, Done}
 use Rattle.bundle_parts.specs.declared.State.{State}
 use Rattle.bundle_parts.specs.declared.Reader.{Reader}
+use Rattle.bundle_parts.specs.Late.{isRoomy}
 
 -- what a state and the buffers say: what is known, a block's rest, whether a byte came behind the last block, and the answer so far
 pub record Stand : Type 0 where
@@ -26,9 +25,12 @@ pub record Stand : Type 0 where
   pub text : List ℕ
   pub events : List ℕ
 
--- of the bytes that the state holds those count that are a rest: fewer than a block
+-- of the bytes that a state holds those that are a rest: fewer than a block of 512
+abbrev pub restOf : State → List ℕ → List ℕ
+restOf s rest = take (min (s .held) 511) rest
+
 abbrev pub standing : State → List ℕ → (t e : List ℕ) → Stand
-standing s rest t e = record { known = s .known; rest = take (min (s .held) 511) rest; over = s .over; progress = s .progress; text = t; events = e }
+standing s rest t e = record { known = s .known; rest = restOf s rest; over = s .over; progress = s .progress; text = t; events = e }
 
 abbrev pub standOf : Reader → (t e : List ℕ) → Stand
 standOf r t e = standing (r .state) (r .rest) t e
@@ -65,7 +67,7 @@ unlessDone More s next = next
 unlessDone (Done a) s next = s
 
 abbrev pub roomy : (t e : List ℕ) → Bool
-roomy t e = leb leastRoom (length t) && leb leastRoom (length e)
+roomy t e = isRoomy (length t) (length e)
 
 abbrev pub calledOn : Stand → Stand → Stand
 calledOn s next = unlessDone (s .progress) s (if roomy (s .text) (s .events) then next else refusedAt (s .text) (s .events) Short)
@@ -77,17 +79,12 @@ feedOf s part =
     (settled (s .over) (s .text) (s .events)
     (advanceOf (s .known) (fresh (s .known) (s .rest) (s .text)) (fresh (s .known) (s .rest) (s .events)) (s .rest ++ part)))
 
--- the end
-abbrev pub answered : Stand → Stand
-answered s =
-    record {
-      known = s .known;
-      rest = [];
-      over = s .over;
-      progress = Done (Bundle (s .known .text) (s .known .events) (s .known .edition));
-      text = s .text;
-      events = s .events;
-    }
+-- the end: the bundle, where every block has come and no byte behind them
+abbrev pub answered : (over : Bool) → Known → (t e : List ℕ) → Stand
+answered over k t e = record { known = k; rest = []; over = over; progress = Done (Bundle (k .text) (k .events) (k .edition)); text = t; events = e }
+
+abbrev pub closed : (over : Bool) → Known → (t e : List ℕ) → Stand
+closed over k t e = if wholeOf k && not over then answered over k t e else refusedAt t e (Broken 0)
 
 unfoldable pub endOf : Stand → Stand
-endOf s = calledOn s (if wholeOf (s .known) && not (s .over) then answered s else refusedAt (s .text) (s .events) (Broken 0))
+endOf s = calledOn s (closed (s .over) (s .known) (s .text) (s .events))

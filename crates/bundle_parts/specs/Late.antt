@@ -1,5 +1,5 @@
 -- 02's reading of a bundle that comes in parts, on the joined bytes: as the whole-file reader's, but each block is judged once it has come whole, and what is wrong with the length only at the end. Assumes nothing.
-use mathlib.Core.Bool.{_&&_}
+use mathlib.Core.Bool.{Bool, _&&_}
 use mathlib.Core.List.{List, []}
 use Prim.Native.Nat.{ℕ, _+_, _-_, _/_, min}
 use lib.Dec.{leb}
@@ -13,24 +13,28 @@ use Rattle.block_run.specs.Run.{judgeRun, heldIn}
 use Rattle.bundle.specs.Bundle.{textLength, eventLength, textBlocks, eventBlocks, textPart, eventPart, judgeLength, judgeHeader, judgeCount, Meaning, refused, meant}
 use Rattle.bundle.specs.Sizes.{leastRoom, textRoom, eventRoom, textKind, eventKind}
 
+-- the two buffers are long enough; else refusal 1
+abbrev pub isRoomy : (textBuffer eventBuffer : ℕ) → Bool
+isRoomy textBuffer eventBuffer = leb leastRoom textBuffer && leb leastRoom eventBuffer
+
 module _ (bundle : List ℕ) where
   -- of the text blocks and of the event blocks that the header asks for: how many have come whole
-  abbrev pub textsCame : ℕ
-  textsCame = min (length bundle / 512 - 1) (textBlocks bundle)
+  abbrev pub textBlocksCame : ℕ
+  textBlocksCame = min (length bundle / 512 - 1) (textBlocks bundle)
 
-  abbrev pub recordsCame : ℕ
-  recordsCame = min (length bundle / 512 - (1 + textBlocks bundle)) (eventBlocks bundle)
+  abbrev pub eventBlocksCame : ℕ
+  eventBlocksCame = min (length bundle / 512 - (1 + textBlocks bundle)) (eventBlocks bundle)
 
   -- as judgeText and judgeEvents of the whole-file reader, for these blocks alone
-  unfoldable pub judgeTexts : Verdict
-  judgeTexts = judgeRun (editionIn bundle) textKind textRoom 1 textsCame (textLength bundle) (textPart bundle)
+  unfoldable pub judgeTextCame : Verdict
+  judgeTextCame = judgeRun (editionIn bundle) textKind textRoom 1 textBlocksCame (textLength bundle) (textPart bundle)
 
-  unfoldable pub judgeRecords : Verdict
-  judgeRecords = judgeRun (editionIn bundle) eventKind eventRoom (1 + textBlocks bundle) recordsCame (eventLength bundle) (eventPart bundle)
+  unfoldable pub judgeEventsCame : Verdict
+  judgeEventsCame = judgeRun (editionIn bundle) eventKind eventRoom (1 + textBlocks bundle) eventBlocksCame (eventLength bundle) (eventPart bundle)
 
   -- while it comes: each block that has come whole, in order; bytes behind the last one asked for are not judged
   unfoldable pub judgeCame : Verdict
-  judgeCame = if leb 512 (length bundle) then judgeHeader bundle before judgeTexts before judgeRecords else Good
+  judgeCame = if leb 512 (length bundle) then judgeHeader bundle before judgeTextCame before judgeEventsCame else Good
 
   -- at the end: then length 0, no multiple of 512, and the count
   unfoldable pub judgeLate : Verdict
@@ -38,14 +42,14 @@ module _ (bundle : List ℕ) where
 
   -- what the blocks that have come hold
   unfoldable pub textSoFar : List ℕ
-  textSoFar = if leb 512 (length bundle) then heldIn textRoom textsCame (textLength bundle) (textPart bundle) else []
+  textSoFar = if leb 512 (length bundle) then heldIn textRoom textBlocksCame (textLength bundle) (textPart bundle) else []
 
   unfoldable pub eventsSoFar : List ℕ
-  eventsSoFar = if leb 512 (length bundle) then heldIn eventRoom recordsCame (eventLength bundle) (eventPart bundle) else []
+  eventsSoFar = if leb 512 (length bundle) then heldIn eventRoom eventBlocksCame (eventLength bundle) (eventPart bundle) else []
 
   -- what the reader in parts makes of a bundle at its end, the buffers apart; and refusal 1 before
   unfoldable pub readLate : Meaning
   readLate = meant judgeLate bundle
 
   unfoldable pub callLate : (textBuffer eventBuffer : ℕ) → Meaning
-  callLate textBuffer eventBuffer = if leb leastRoom textBuffer && leb leastRoom eventBuffer then readLate else refused Short
+  callLate textBuffer eventBuffer = if isRoomy textBuffer eventBuffer then readLate else refused Short

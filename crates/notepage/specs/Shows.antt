@@ -39,13 +39,12 @@ abbrev pub ShowsOf : Meaning → (out work out′ : List ℕ) → Shown → Type
 ShowsOf (refused r) out work out′ s = s ≡ Refused (R.refusalNumber r) (R.refusalPlace r)
 ShowsOf (says text events edition) out work out′ s = ShowsNote text events out work out′ s
 
--- the input brought these parts; or it could not be read, and nothing is shown
+-- the promise once the input has ended: where the reader and the buffers stand as some parts led them, what is shown is that of the joined parts
+pub record ShowsEnd (r : Reader) (t e out work out′ : List ℕ) (s : Shown) : Type 0 where
+  pub shows : (t₀ e₀ : List ℕ) (parts : List (List ℕ)) → standOf r t e ≡ fedOf (startOf t₀ e₀) parts → ShowsOf (callLate (joined parts) (length t₀) (length e₀)) out work out′ s
+
+-- the whole program: there are parts of which that is shown, or nothing is, since the input could not be read. No contract can say what a read brings, so that
+-- these parts are the input's is not said here: it is run
 pub data Shows (t e out work out′ : List ℕ) (s : Shown) : Type 0 where
   read : (parts : List (List ℕ)) → ShowsOf (callLate (joined parts) (length t) (length e)) out work out′ s → Shows t e out work out′ s
   unread : s ≡ Unread → Shows t e out work out′ s
-
--- ---- said for an inner function, no part of the promise
-
--- the reader and the buffers stand where any parts led, and the end is said
-pub record ShowsEnd (r : Reader) (t e out work out′ : List ℕ) (s : Shown) : Type 0 where
-  pub shows : (t₀ e₀ : List ℕ) (parts : List (List ℕ)) → standOf r t e ≡ fedOf (startOf t₀ e₀) parts → ShowsOf (callLate (joined parts) (length t₀) (length e₀)) out work out′ s
