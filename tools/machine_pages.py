@@ -95,13 +95,19 @@ def write_pages():
     print(count, 'pages')
 
 
+def unfoldable(file):
+    """The names that other crates may unfold: its own, and those that it hands on."""
+    text = file.read_text()
+    handed = re.findall(r'^unfoldable pub use \S+\.\{(.*)\}', text, re.M)
+    return [n for names in handed for n in names.split(', ')] + re.findall(r'^(?:  )?unfoldable pub (\S+) :', text, re.M)
+
+
 def write_running():
     modules = re.findall(r'^pub mod (\w+)', (crates / 'machine/specs/Lib.antt').read_text(), re.M)
     uses, names = [], []
     for module in LEAVES + ['machine.' + m for m in modules]:
         crate, file = module.split('.')
-        found = re.findall(r'^(?:  )?unfoldable pub (\S+) :', (crates / crate / f'specs/{file}.antt').read_text(), re.M)
-        items = [(n, f'{file}-{n}' if n in names else n) for n in found]
+        items = [(n, f'{file}-{n}' if n in names else n) for n in unfoldable(crates / crate / f'specs/{file}.antt')]
         names += [own for _, own in items]
         path = 'Rattle.machine.specs' if crate == 'machine' else f'Rattle.{crate}.specs'
         if items:

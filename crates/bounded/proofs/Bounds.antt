@@ -1,18 +1,20 @@
 -- What is known where the machine goes on within the code's tables. Assumes nothing.
 use mathlib.Core.Path.{_≡_, refl}
 use mathlib.Core.Bool.{Bool, true, false, _&&_}
+use mathlib.Core.List.{List}
 use Prim.Native.Nat.{ℕ, _≤_}
 use native.Mathlib.Omega.{arith}
 use borrow.Author.Tests.{leb-true}
 use lib.Dec.{leb}
 use lib.ListN.{length}
 use Rattle.lent.proofs.Laws.{and-left, and-right}
-use Rattle.machine.specs.Outcome.{Outcome, stop, go}
+use Rattle.machine.specs.Outcome.{Outcome, stop, go, _>>=_}
 use Rattle.machine.specs.State.{State}
-use Rattle.bounded.specs.Within.{countable, fitting, fittingOnly, one}
-
-stops : {X A : Type 0} {u : A} → stop ≡ go u → X
-stops p = let z : _≡_ {A = ℕ} 0 1 = cc in absurd (omega arith)
+use Rattle.machine.specs.Buffers.{push}
+use Rattle.machine.specs.Turn.{Turn}
+use Rattle.machine.specs.Command.{step, write, Source, textOf}
+use Rattle.machine.proofs.Outcomes.{never, first-goes}
+use Rattle.bounded.specs.Within.{countable, fitting, fittingOnly, one, within}
 
 -- a command that is not made of others: its turn was right, the machine went on, and the tables hold what came
 pub record Done (right : Bool) (o : Outcome State) (u : State) : Type 0 where
@@ -21,13 +23,20 @@ pub record Done (right : Bool) (o : Outcome State) (u : State) : Type 0 where
   pub fits : fitting u ≡ true
 
 pub done : (right : Bool) (o : Outcome State) (u : State) → one right o ≡ go u → Done right o u
-done false o u p = stops p
-done true stop u p = stops p
+done false o u p = never p
+done true stop u p = never p
 done true (go v) u p = on (fitting v) refl p
   where
     on : (x : Bool) → fitting v ≡ x → elim x [ true ↦ go v | false ↦ stop ] ≡ go u → Done true (go v) u
     on true q r = let e : v ≡ u = cc in record { turn = refl; went = r; fits = rw (← e) q }
-    on false q r = stops r
+    on false q r = never r
+
+-- a text that is written: it was there, and it was pushed
+pub wrote : (x : Source) (t : Turn) (s u : State) → within (step (write x)) t s ≡ go u → (b : List ℕ) × (textOf x t s ≡ go b) × (push b s ≡ u)
+unfolding within
+wrote x t s u p =
+    let r = first-goes (textOf x t s) (λ b. go (push b s)) u (done true (textOf x t s >>= λ b. go (push b s)) u p .went) in
+    (r .0, r .1, (let z = r .2 in cc))
 
 pub record Fits (s : State) : Type 0 where
   pub captures : length (s .captures) ≤ 64

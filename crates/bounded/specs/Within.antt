@@ -11,7 +11,7 @@ use Rattle.machine.specs.State.{State, Media, Call, Destination, noDestination,
 use Rattle.machine.specs.Turn.{Turn}
 use Rattle.machine.specs.Media.{Part, label, destination, title, ownOf}
 use Rattle.machine.specs.Test.{test}
-use Rattle.machine.specs.Command.{Command, _▸_, whether, nothing, put, slice, chunk, reference, url, rank, start, alignment, lineEnding, lineEndingIfNeeded, buffer, drop, resume, resumeCode, set, tighten, loosen, keepRank, forgetRank, seenData, fences, countFence, marker, first, columns, noColumns, nextColumn, firstColumn, openMedia, closeMedia, identify, leaveImage, seekDefinition, show, keepDefinition, footnoteLabel, keepFootnote, call, hold, release, store, emptyDestination, missingCells, repeat, exec}
+use Rattle.machine.specs.Command.{Command, nothing, step, _▸_, whether, missingCells, Step, write, capture, setext, mode, wait, column, medium, retain, Setext, hold, release, Medium, openMedia, closeMedia, store, emptyDestination, identify, seekDefinition, repeat, perform, exec}
 use Rattle.machine.specs.Handlers.{commandOf}
 use Rattle.machine.specs.Totals.{size, mediaSizes, held}
 
@@ -68,54 +68,36 @@ abbrev pub one : (ordered : Bool) → Outcome State → Outcome State
 one true o = fittingOnly o
 one false o = stop
 
--- A part is held behind all that is held; a setext heading's text where nothing is; a medium is opened in one of which nothing is known.
+-- a setext heading's text is held where nothing is, and given back where no medium holds anything
+abbrev pub setextOrder : Setext → State → Bool
+setextOrder hold s = eqb (held s) 0
+setextOrder release s = eqb (mediaSizes (s .media)) 0
+
+-- a part is held behind all that is held; a medium is opened in one of which nothing is known
+abbrev pub mediumOrder : Medium → List Media → Bool
+mediumOrder (openMedia image) ms = newestIsBare ms
+mediumOrder closeMedia ms = true
+mediumOrder (store part) ms = eqb (ofNewest (partsFrom part) ms) 0
+mediumOrder emptyDestination ms = eqb (ofNewest (λ m. size (ownOf (m .destination))) ms) 0
+mediumOrder (identify id) ms = true
+mediumOrder seekDefinition ms = true
+
+abbrev pub inOrder : Step → State → Bool
+inOrder (write x) s = true
+inOrder (capture x) s = true
+inOrder (setext x) s = setextOrder x s
+inOrder (mode x) s = true
+inOrder (wait x) s = true
+inOrder (column x) s = true
+inOrder (medium x) s = mediumOrder x (s .media)
+inOrder (retain x) s = true
+
 unfoldable pub within : Command → Turn → State → Outcome State
+within nothing t s = one true (go s)
+within (step x) t s = one (inOrder x s) (perform x t s)
 within (c ▸ d) t s = within c t s >>= λ u. within d t u
 within (whether q c d) t s = test q t s >>= elim [ true ↦ within c t s | false ↦ within d t s ]
 within (missingCells c) t s = need (s .table .aligns) >>= λ aligns. repeat (length aligns - s .table .column) (λ u. within c t u) s
-within hold t s = one (eqb (held s) 0) (exec hold t s)
-within release t s = one (eqb (mediaSizes (s .media)) 0) (exec release t s)
-within (store part) t s = one (eqb (ofNewest (partsFrom part) (s .media)) 0) (exec (store part) t s)
-within emptyDestination t s = one (eqb (ofNewest (λ m. size (ownOf (m .destination))) (s .media)) 0) (exec emptyDestination t s)
-within nothing t s = one true (exec nothing t s)
-within (put text) t s = one true (exec (put text) t s)
-within slice t s = one true (exec slice t s)
-within chunk t s = one true (exec chunk t s)
-within reference t s = one true (exec reference t s)
-within (url scheme) t s = one true (exec (url scheme) t s)
-within rank t s = one true (exec rank t s)
-within start t s = one true (exec start t s)
-within alignment t s = one true (exec alignment t s)
-within lineEnding t s = one true (exec lineEnding t s)
-within lineEndingIfNeeded t s = one true (exec lineEndingIfNeeded t s)
-within buffer t s = one true (exec buffer t s)
-within drop t s = one true (exec drop t s)
-within (resume before after) t s = one true (exec (resume before after) t s)
-within resumeCode t s = one true (exec resumeCode t s)
-within (set flag x) t s = one true (exec (set flag x) t s)
-within (tighten x) t s = one true (exec (tighten x) t s)
-within loosen t s = one true (exec loosen t s)
-within keepRank t s = one true (exec keepRank t s)
-within forgetRank t s = one true (exec forgetRank t s)
-within (seenData x) t s = one true (exec (seenData x) t s)
-within (fences x) t s = one true (exec (fences x) t s)
-within countFence t s = one true (exec countFence t s)
-within (marker m) t s = one true (exec (marker m) t s)
-within (first x) t s = one true (exec (first x) t s)
-within columns t s = one true (exec columns t s)
-within noColumns t s = one true (exec noColumns t s)
-within nextColumn t s = one true (exec nextColumn t s)
-within firstColumn t s = one true (exec firstColumn t s)
-within (openMedia image) t s = one (newestIsBare (s .media)) (exec (openMedia image) t s)
-within closeMedia t s = one true (exec closeMedia t s)
-within (identify id) t s = one true (exec (identify id) t s)
-within leaveImage t s = one true (exec leaveImage t s)
-within seekDefinition t s = one true (exec seekDefinition t s)
-within (show part) t s = one true (exec (show part) t s)
-within keepDefinition t s = one true (exec keepDefinition t s)
-within footnoteLabel t s = one true (exec footnoteLabel t s)
-within keepFootnote t s = one true (exec keepFootnote t s)
-within call t s = one true (exec call t s)
 
 -- it goes on through all these turns
 pub data Goes : List Turn → State → State → Type 0 where

@@ -15,11 +15,11 @@ use Rattle.lent.specs.Fill.{fill, past, Filled}
 use Rattle.machine.specs.declared.Ending.{Ending}
 use Rattle.machine.specs.declared.Ending.the-variants.{Lf, Cr, CrLf}
 use Rattle.machine.specs.State.{State}
-use Rattle.machine.specs.Buffers.{push, endLine, endLineIfNeeded, endingBytes, isEol, lastOr, newestOf}
+use Rattle.machine.specs.Buffers.{push, endLine, endingIfNeeded, endLineIfNeeded, endingBytes, isEol, lastOr, newestOf}
 use Rattle.buffers.specs.declared.Buffers.{Buffers}
 use Rattle.buffers.specs.Stand.{Holds, flat, Saved, Starts, Stand, Keeps, KeepsBy, endLineBy}
 use Rattle.buffers.specs.Private.{endsLine, atLineStart, needless}
-use Rattle.buffers.proofs.Laws.{withPage, withEnd, holds-place, holds-fits, holds-full, push-nil, push-cons, push-page, push-capture}
+use Rattle.buffers.proofs.Laws.{withPage, withEnd, holds-place, holds-fits, holds-full, push-nil, push-cons, push-none, push-page, push-capture}
 
 -- ---- the last byte
 
@@ -80,8 +80,9 @@ module _ (b : Buffers) (captures out starts : List ℕ) (s : State) (x : Stand b
       })
 
   needed : (t : Bool) → isEol (lastOr 10 (newestOf (s .page) (s .captures))) ≡ t → endLineIfNeeded s ≡ (if t then s else endLine s)
-  unfolding endLineIfNeeded
-  needed t p = rw p
+  unfolding endLine endingIfNeeded endLineIfNeeded
+  needed true p = rw p (push-none s)
+  needed false p = rw p
 
   -- no line ending where it says so, whatever it says where there is no room
   pub at-start : atLineStart b captures out ≡ true → Stand b captures starts out (endLineIfNeeded s)
@@ -92,11 +93,11 @@ module _ (b : Buffers) (captures out starts : List ℕ) (s : State) (x : Stand b
       go cs p true q = rw (needed true q) x
       go [] p false q = elim (decLe (b .page) (length out)) [
         | yes l ↦ absurd (true≢false (sym h ∙ start-page p l ∙ q))
-        | no l ↦ rw (needed false q) (full-page (endingBytes (s .ending)) p (omega arith))
+        | no l ↦ rw (needed false q) (full-page (endingBytes (s .fixed .ending)) p (omega arith))
       ]
       go (c ∷ cs) p false q = elim (decLe (b .end) (length captures)) [
         | yes l ↦ absurd (true≢false (sym h ∙ start-capture c cs p l ∙ q))
-        | no l ↦ rw (needed false q) (full-capture (endingBytes (s .ending)) c cs p (omega arith))
+        | no l ↦ rw (needed false q) (full-capture (endingBytes (s .fixed .ending)) c cs p (omega arith))
       ]
 
   over-start : (d : List ℕ) (from to : ℕ) → length d < to → endsLine d from to ≡ true
@@ -134,7 +135,7 @@ module _ (b : Buffers) (captures out starts : List ℕ) (s : State) (x : Stand b
 -- ---- as the code has it
 
 module _ (b : Buffers) (ending : Ending) (captures out : List ℕ) where
-  ended : (s : State) → ending ≡ s .ending → push (endingBytes ending) s ≡ endLine s
+  ended : (s : State) → ending ≡ s .fixed .ending → push (endingBytes ending) s ≡ endLine s
   unfolding endLine
   ended s p = rw p
 

@@ -44,7 +44,7 @@ pub record Keeps (f : State → State) (b : Buffers) (captures out : List ℕ) (
 
 -- the same, where the line ending is the machine's
 pub record KeepsBy (ending : Ending) (f : State → State) (b : Buffers) (captures out : List ℕ) (r : Buffers) (captures′ out′ : List ℕ) : Type 0 where
-  pub keeps : (starts : List ℕ) (s : State) → ending ≡ s .ending → Stand b captures starts out s → Stand r captures′ starts out′ (f s)
+  pub keeps : (starts : List ℕ) (s : State) → ending ≡ s .fixed .ending → Stand b captures starts out s → Stand r captures′ starts out′ (f s)
 
 -- a line ending, always or where it is needed
 abbrev pub endLineBy : (always : Bool) → State → State

@@ -13,8 +13,8 @@ use Rattle.checker.proofs.Checked.{the-type}
 use Rattle.checker.specs.declared.Checked.the-variants.{Yes}
 use Rattle.checker.specs.Checked.{checkOf}
 use Rattle.machine.specs.declared.Options.{Options}
-use Rattle.machine.specs.Run.{runOf}
-use Rattle.never.proofs.Whole.{ending-goes, turns-go}
+use Rattle.machine.specs.Run.{fixedOf, runOf}
+use Rattle.never.proofs.Whole.{ending-goes, begins, turns-go}
 use Rattle.to_html.specs.Renders.{Runs, Answers, Renders}
 use Rattle.built.specs.declared.Rendered.{Rendered}
 use Rattle.built.specs.declared.Rendered.the-variants as R
@@ -31,8 +31,8 @@ pub runs : (text events : List ℕ) (o : Options) → checkOf text events ≡ Ye
 runs text events o y =
     let m = yes-meets text events .0 y in
     let e = ending-goes text events m (o .ending) 0 [] (eventsOf events) (record { long = refl; same = refl }) in
-    let q = turns-go text events m o (e .0) in
-    record { ending = e .0; found = e .1; last = q .0; goes = q .1; closed = q .2; clean = q .3; called = q .4 }
+    let q = turns-go text events m o (fixedOf o (e .0)) in
+    record { ending = e .0; found = e .1; begun = begins text events m o; last = q .0; goes = q .1; closed = q .2; clean = q .3; called = q .4 }
 
 -- ---- refusals 1 to 7
 

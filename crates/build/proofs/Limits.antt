@@ -16,7 +16,7 @@ use Rattle.machine.specs.Test.{isEmpty}
 use Rattle.machine.specs.Section.{footnoteSection}
 use Rattle.machine.specs.Handlers.{handle}
 use Rattle.machine.specs.Totals.{over}
-use Rattle.machine.specs.Run.{page, refused, stopped, pageOf, endingOf, turnsOf, sectionEnd, finish, runFrom, runWith, runOf, machineOf}
+use Rattle.machine.specs.Run.{page, refused, stopped, pageOf, endingOf, fixedOf, areBegun, turnsOf, sectionEnd, finish, runFrom, runWith, runOf, machineOf}
 
 abbrev free : State → Option ℕ
 free s = none
@@ -66,12 +66,14 @@ module _ (n : ℕ) (limit : State → Option ℕ) (b : List ℕ) where
 
 with-free : (limit : State → Option ℕ) (text : List ℕ) (o : Options) (es : List Event) (b : List ℕ) → runWith limit text o es ≡ page b → runWith free text o es ≡ page b
 unfolding runWith
-with-free limit text o es b e = on (endingOf (o .ending) text es) e
+with-free limit text o es b e = on (endingOf (o .ending) text es) (areBegun es) e
   where
-    on : (x : Outcome Ending) → (elim x [ stop ↦ stopped 0 | go ending ↦ runFrom (length es) limit (turnsOf text o es) (start ending) ]) ≡ page b
-        → (elim x [ stop ↦ stopped 0 | go ending ↦ runFrom (length es) free (turnsOf text o es) (start ending) ]) ≡ page b
-    on stop e = no-stop e
-    on (go ending) e = run-free (length es) limit b (turnsOf text o es) (start ending) e
+    on : (x : Outcome Ending) (begun : Bool)
+        → (elim x [ stop ↦ stopped 0 | go ending ↦ elim begun [ true ↦ runFrom (length es) limit (turnsOf text o es) (start (fixedOf o ending)) | false ↦ stopped 0 ] ]) ≡ page b
+        → (elim x [ stop ↦ stopped 0 | go ending ↦ elim begun [ true ↦ runFrom (length es) free (turnsOf text o es) (start (fixedOf o ending)) | false ↦ stopped 0 ] ]) ≡ page b
+    on stop begun e = no-stop e
+    on (go ending) true e = run-free (length es) limit b (turnsOf text o es) (start (fixedOf o ending)) e
+    on (go ending) false e = no-stop e
 
 pub no-limit : (text : List ℕ) (o : Options) (room : ℕ) (es : List Event) (b : List ℕ) → runOf text o room es ≡ page b → machineOf text o es ≡ go b
 unfolding runOf machineOf

@@ -1,19 +1,18 @@
 -- Texts written one behind the other are one text written. Assumes nothing.
 use mathlib.Core.Path.{_≡_, refl, sym, ap, _∙_}
-use mathlib.Core.Bool.{Bool, true, false, cond}
 use mathlib.Core.List.{List, [], _∷_, _++_, append-nil, append-assoc}
 use Prim.Native.Nat.{ℕ}
 use Prim.Native.String.{String}
 use lib.Dec.{T}
 use Rattle.machine.specs.State.{State}
 use Rattle.machine.specs.Set.{setCaptures}
-use Rattle.machine.specs.Buffers.{push, write, isEol, lastOr, newestOf, endLine, endLineIfNeeded}
+use Rattle.machine.specs.Buffers.{push, write, endLine, endLineIfNeeded}
 use Rattle.clean.specs.Clean.{Valid, Clean}
 use Rattle.clean.specs.Ours.{plain}
 use Rattle.clean.specs.Section.{Appends}
 use Rattle.clean.proofs.Valid.{none-valid, joined, text}
 use Rattle.clean.proofs.Texts.{ending-valid}
-use Rattle.clean.proofs.Pushed.{pushed}
+use Rattle.clean.proofs.Pushed.{pushed, needed-valid}
 
 -- ---- the newest buffer is the page or a capture
 
@@ -52,15 +51,11 @@ module _ {s u : State} (a : Appends s u) where
 
   pub behind-line : Appends s (endLine u)
   unfolding endLine
-  behind-line = behind (ending-valid (u .ending))
+  behind-line = behind (ending-valid (u .fixed .ending))
 
   pub behind-line-if : Appends s (endLineIfNeeded u)
   unfolding endLineIfNeeded
-  behind-line-if = on (isEol (lastOr 10 (newestOf (u .page) (u .captures))))
-    where
-      on : (t : Bool) → Appends s (cond t u (endLine u))
-      on true = a
-      on false = behind-line
+  behind-line-if = behind (needed-valid u)
 
   pub same-kept : u .kept ≡ s .kept
   same-kept = ap (λ (x : State). x .kept) (a .is) ∙ kept-in (a .text) (s .captures) s

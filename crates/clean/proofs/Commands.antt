@@ -17,16 +17,17 @@ use Rattle.machine.specs.Turn.{Turn, spanOf, sliceOf, ownStr}
 use Rattle.machine.specs.Text.{startText, startOf, codeOf}
 use Rattle.machine.specs.Media.{newMedia, withPart, withId}
 use Rattle.machine.specs.Test.{Test, test}
-use Rattle.machine.specs.Command.{Command, _▸_, whether, nothing, put, slice, chunk, reference, url, rank, start, alignment, lineEnding, lineEndingIfNeeded, buffer, drop, resume, resumeCode, hold, release, set, tighten, loosen, keepRank, forgetRank, seenData, fences, countFence, marker, first, columns, noColumns, nextColumn, firstColumn, missingCells, openMedia, closeMedia, store, emptyDestination, identify, leaveImage, seekDefinition, show, keepDefinition, footnoteLabel, keepFootnote, call, tail, repeat, exec}
+use Rattle.machine.specs.Command.{Command, nothing, step, _▸_, whether, missingCells, Step, write, capture, setext, mode, wait, column, medium, retain, Given, ours as ours-text, lineEnding, lineEndingIfNeeded, givenText, Made, slice, chunk, url, madeOf, Source, given, made, rank, start, alignment, part, textOf, Capture, buffer, drop, resume, resumeCode, capturing, Setext, hold, release, holding, Mode, set, leaveImage, tighten, loosen, setting, Wait, keepRank, forgetRank, seenData, fences, countFence, marker, reference, first, awaiting, Column, columns, noColumns, nextColumn, firstColumn, counting, Medium, openMedia, closeMedia, store, emptyDestination, identify, seekDefinition, knowing, Keep, keepDefinition, footnoteLabel, keepFootnote, call, keeping, tail, perform, repeat, exec}
+use Rattle.machine.specs.Words as W
 use Rattle.clean.specs.Clean.{Valid, more, Maybe, missing, there, ours as itself, Clean}
-use Rattle.clean.specs.Ours.{plain, ours}
+use Rattle.clean.specs.Ours.{plain, oursGiven, oursMade, oursWritten, oursAround, oursIn, ours}
 use Rattle.clean.proofs.Valid.{none-valid, joined, text, spaces}
-use Rattle.clean.proofs.Texts.{decimal-valid, start-valid, align-valid}
-use Rattle.clean.proofs.Encoded.{referred}
+use Rattle.clean.proofs.Texts.{ending-valid, decimal-valid, start-valid, align-valid}
+use Rattle.clean.proofs.Encoded.{encoded, referred}
 use Rattle.clean.proofs.Urls.{url-valid}
 use Rattle.clean.proofs.CodeText.{code-valid}
 use Rattle.clean.proofs.Safe.{Safe, stops, goes, chain, result, any, needed, read, reads, sliced}
-use Rattle.clean.proofs.Pushed.{alike, pushed, pushed-encoded, ended, ended-if, opened, taken}
+use Rattle.clean.proofs.Pushed.{alike, pushed, pushed-encoded, needed-valid, opened, taken}
 use Rattle.clean.proofs.Media.{with-media, newest, changed, new-clean, part-clean, id-clean, leads, left, sought, shown, defines}
 use Rattle.clean.proofs.Footnotes.{keeps-body, called}
 
@@ -50,62 +51,99 @@ repeated (suc n) f k {s} c = chain _ (k s c) (λ u d. repeated n f k d)
 chosen : (q : Test) (t : Turn) (s : State) {o p : Outcome State} → Safe Clean o → Safe Clean p → Safe Clean (test q t s >>= elim [ true ↦ o | false ↦ p ])
 chosen q t s {o} {p} a b = chain (elim [ true ↦ o | false ↦ p ]) (any (test q t s)) (elim [ true ↦ λ _. a | false ↦ λ _. b ])
 
+-- ---- what is written
+
+given-valid : (x : Given) → T (oursGiven x) → (s : State) → Valid (givenText x s)
+given-valid (ours-text w) p s = text w p
+given-valid lineEnding p s = ending-valid (s .fixed .ending)
+given-valid lineEndingIfNeeded p s = needed-valid s
+
+made-valid : (x : Made) → T (oursMade x) → (t : Turn) (s : State) {b : List ℕ} → Valid b → Valid (madeOf x t s b)
+made-valid slice p t s v = encoded (s .flags .encode) v
+made-valid chunk p t s v = encoded (s .flags .encode) (joined (joined (spaces (t .event .before)) v) (spaces (t .event .after)))
+made-valid (url w) p t s v = url-valid (t .options) false (joined (text w p) v)
+
+written : (x : Source) → T (oursWritten x) → (t : Turn) (s : State) → Clean s → Safe Valid (textOf x t s)
+written (given x) p t s c = goes (given-valid x p s)
+written (made x) p t s c = chain _ (sliced (t .text) (spanOf (t .event))) (λ b v. goes (made-valid x p t s v))
+written rank p t s c = chain _ (any (need (s .waiting .rank))) (λ n _. goes (decimal-valid n))
+written start p t s c = chain _ (any (ownStr t)) (λ b _. started b)
+written alignment p t s c = chain _ (any (need (s .table .aligns))) (λ l _. chain _ (any (need (getElem? l (s .table .column)))) (λ a _. goes (align-valid a)))
+written (part x) p t s c = chain _ (newest c) (λ (m, ms) (y, z). shown x (t .options) (c .kept .definitions) y)
+
+-- ---- each group of steps
+
+captured : (x : Capture) → T (oursAround x) → (s : State) → Clean s → Safe Clean (capturing x s)
+captured buffer p s c = goes (opened c)
+captured drop p s c = chain _ (taken c) (λ (b, u) (v, d). goes d)
+captured (resume w x) p s c = chain _ (taken c) (λ (b, u) (v, d). goes (pushed d (joined (joined (text w (and-left (plain w) (plain x) p)) v) (text x (and-right (plain w) (plain x) p)))))
+captured resumeCode p s c = chain _ (taken c) (λ (b, u) (v, d). chain _ (read (codeOf (u .table .aligns) b)) (λ x w. goes (pushed d w)))
+
+held : (x : Setext) (s : State) → Clean s → Safe Clean (holding x s)
+held hold s c = chain _ (taken c) (λ (b, u) (v, d). goes (with-setext d (there v)))
+held release s c = chain _ (needed (c .setext)) (λ b v. goes (pushed (with-setext c missing) v))
+
+moded : (x : Mode) (s : State) → Clean s → Safe Clean (setting x s)
+moded (set flag x) s c = goes (alike (setFlag flag x s) c refl)
+moded leaveImage s c = left c
+moded (tighten x) s c = goes (alike (setTight (x ∷ s .tight) s) c refl)
+moded loosen s c = goes (alike (setTight (tail (s .tight)) s) c refl)
+
+awaited : (x : Wait) (t : Turn) (s : State) → Clean s → Safe Clean (awaiting x t s)
+awaited keepRank t s c = chain _ (any (sliceOf (t .text) (spanOf (t .event)))) (λ b _. goes (alike (setRank (some (length b)) s) c refl))
+awaited forgetRank t s c = goes (alike (setRank none s) c refl)
+awaited (seenData x) t s c = goes (alike (setSeen x s) c refl)
+awaited (fences x) t s c = goes (alike (setFences x s) c refl)
+awaited countFence t s c = chain _ (any (need (s .waiting .fences))) (λ n _. goes (alike (setFences (some (suc n)) s) c refl))
+awaited (marker m) t s c = goes (alike (setMarker (some m) s) c refl)
+awaited reference t s c =
+    chain _ (any (need (s .waiting .marker))) (λ m _. chain _ (any (ownStr t)) (λ b _. chain _ (needed (referred m b)) (λ d v. goes (pushed-encoded (alike (setMarker none s) c refl) v))))
+awaited (first x) t s c = goes (alike (setFirst (some x) s) c refl)
+
+counted : (x : Column) (t : Turn) (s : State) → Clean s → Safe Clean (counting x t s)
+counted columns t s c = goes (alike (setAligns (some (alignmentsOf (t .event))) s) c refl)
+counted noColumns t s c = goes (alike (setAligns none s) c refl)
+counted nextColumn t s c = goes (alike (setColumn (suc (s .table .column)) s) c refl)
+counted firstColumn t s c = goes (alike (setColumn 0 s) c refl)
+
+known : (x : Medium) (t : Turn) (s : State) → Clean s → Safe Clean (knowing x t s)
+known (openMedia image) t s c = goes (with-media (newMedia image ∷ s .media) c (more (new-clean image) (c .media)))
+known closeMedia t s c = chain _ (newest c) (λ (m, ms) (x, y). goes (with-media ms c y))
+known (store p) t s c = chain _ (taken c) (λ (b, u) (v, d). changed (withPart p b) d (part-clean p v))
+known emptyDestination t s c = changed (setDestination (own [])) c (leads (own []) (itself none-valid))
+known (identify id) t s c = changed (withId id (spanOf (t .event))) c (id-clean id (spanOf (t .event)))
+known seekDefinition t s c = sought t c
+
+kept : (x : Keep) (t : Turn) (s : State) → Clean s → Safe Clean (keeping x t s)
+kept keepDefinition t s c = defines t c
+kept footnoteLabel t s c = goes (alike (setLabels (spanOf (t .event) ∷ s .labels) s) c refl)
+kept keepFootnote t s c = keeps-body t c
+kept call t s c = called t c
+
+performed : (x : Step) → T (oursIn x) → (t : Turn) (s : State) → Clean s → Safe Clean (perform x t s)
+performed (write x) p t s c = chain _ (written x p t s c) (λ b v. goes (pushed c v))
+performed (capture x) p t s c = captured x p s c
+performed (setext x) p t s c = held x s c
+performed (mode x) p t s c = moded x s c
+performed (wait x) p t s c = awaited x t s c
+performed (column x) p t s c = counted x t s c
+performed (medium x) p t s c = known x t s c
+performed (retain x) p t s c = kept x t s c
+
 -- ---- each command
 
 pub safe : (c : Command) → T (ours c) → (t : Turn) (s : State) → Clean s → Safe Clean (exec c t s)
 unfolding exec ours
 safe nothing p t s c = goes c
+safe (step x) p t s c = performed x p t s c
 safe (d ▸ e) p t s c = chain _ (safe d (and-left (ours d) (ours e) p) t s c) (λ u x. safe e (and-right (ours d) (ours e) p) t u x)
 safe (whether q d e) p t s c = chosen q t s (safe d (and-left (ours d) (ours e) p) t s c) (safe e (and-right (ours d) (ours e) p) t s c)
-safe (put w) p t s c = goes (pushed c (text w p))
-safe slice p t s c = chain _ (sliced (t .text) (spanOf (t .event))) (λ b v. goes (pushed-encoded c v))
-safe chunk p t s c = chain _ (sliced (t .text) (spanOf (t .event))) (λ b v. goes (pushed-encoded c (joined (joined (spaces (t .event .before)) v) (spaces (t .event .after)))))
-safe reference p t s c =
-    chain _ (any (need (s .waiting .marker))) (λ m _. chain _ (any (ownStr t)) (λ b _. chain _ (needed (referred m b)) (λ d v. goes (pushed-encoded (alike (setMarker none s) c refl) v))))
-safe (url w) p t s c = chain _ (sliced (t .text) (spanOf (t .event))) (λ b v. goes (pushed c (url-valid (t .options) false (joined (text w p) v))))
-safe rank p t s c = chain _ (any (need (s .waiting .rank))) (λ n _. goes (pushed c (decimal-valid n)))
-safe start p t s c = chain _ (chain _ (any (ownStr t)) (λ b _. started b)) (λ b v. goes (pushed c v))
-safe alignment p t s c = chain _ (any (need (s .table .aligns))) (λ l _. chain _ (any (need (getElem? l (s .table .column)))) (λ a _. goes (pushed c (align-valid a))))
-safe lineEnding p t s c = goes (ended c)
-safe lineEndingIfNeeded p t s c = goes (ended-if c)
-safe buffer p t s c = goes (opened c)
-safe drop p t s c = chain _ (taken c) (λ (b, u) (v, d). goes d)
-safe (resume w x) p t s c = chain _ (taken c) (λ (b, u) (v, d). goes (pushed d (joined (joined (text w (and-left (plain w) (plain x) p)) v) (text x (and-right (plain w) (plain x) p)))))
-safe resumeCode p t s c = chain _ (taken c) (λ (b, u) (v, d). chain _ (read (codeOf (u .table .aligns) b)) (λ x w. goes (pushed d w)))
-safe hold p t s c = chain _ (taken c) (λ (b, u) (v, d). goes (with-setext d (there v)))
-safe release p t s c = chain _ (needed (c .setext)) (λ b v. goes (pushed (with-setext c missing) v))
-safe (set flag x) p t s c = goes (alike (setFlag flag x s) c refl)
-safe (tighten x) p t s c = goes (alike (setTight (x ∷ s .tight) s) c refl)
-safe loosen p t s c = goes (alike (setTight (tail (s .tight)) s) c refl)
-safe keepRank p t s c = chain _ (any (sliceOf (t .text) (spanOf (t .event)))) (λ b _. goes (alike (setRank (some (length b)) s) c refl))
-safe forgetRank p t s c = goes (alike (setRank none s) c refl)
-safe (seenData x) p t s c = goes (alike (setSeen x s) c refl)
-safe (fences x) p t s c = goes (alike (setFences x s) c refl)
-safe countFence p t s c = chain _ (any (need (s .waiting .fences))) (λ n _. goes (alike (setFences (some (suc n)) s) c refl))
-safe (marker m) p t s c = goes (alike (setMarker (some m) s) c refl)
-safe (first x) p t s c = goes (alike (setFirst (some x) s) c refl)
-safe columns p t s c = goes (alike (setAligns (some (alignmentsOf (t .event))) s) c refl)
-safe noColumns p t s c = goes (alike (setAligns none s) c refl)
-safe nextColumn p t s c = goes (alike (setColumn (suc (s .table .column)) s) c refl)
-safe firstColumn p t s c = goes (alike (setColumn 0 s) c refl)
 safe (missingCells d) p t s c = chain _ (any (need (s .table .aligns))) (λ l _. repeated (length l - s .table .column) (λ u. exec d t u) (λ u x. safe d p t u x) c)
-safe (openMedia image) p t s c = goes (with-media (newMedia image ∷ s .media) c (more (new-clean image) (c .media)))
-safe closeMedia p t s c = chain _ (newest c) (λ (m, ms) (x, y). goes (with-media ms c y))
-safe (store part) p t s c = chain _ (taken c) (λ (b, u) (v, d). changed (withPart part b) d (part-clean part v))
-safe emptyDestination p t s c = changed (setDestination (own [])) c (leads (own []) (itself none-valid))
-safe (identify id) p t s c = changed (withId id (spanOf (t .event))) c (id-clean id (spanOf (t .event)))
-safe leaveImage p t s c = left c
-safe seekDefinition p t s c = sought t c
-safe (show part) p t s c = chain _ (newest c) (λ (m, ms) (x, y). chain _ (shown part (t .options) (c .kept .definitions) x) (λ b v. goes (pushed c v)))
-safe keepDefinition p t s c = defines t c
-safe footnoteLabel p t s c = goes (alike (setLabels (spanOf (t .event) ∷ s .labels) s) c refl)
-safe keepFootnote p t s c = keeps-body t c
-safe call p t s c = called t c
 
 pub keeps : (c : Command) → T (ours c) → (t : Turn) (s u : State) → Clean s → exec c t s ≡ go u → Clean u
 keeps c p t s u d e = result Clean u (safe c p t s d) e
 
 -- the code of a clean state is UTF-8, so this goes on wherever there is a capture
-pub code-goes : (t : Turn) (s : State) (b : List ℕ) (u : State) → Clean s → takeCapture s ≡ go (b, u) → exec resumeCode t s ≡ go (push (codeOf (u .table .aligns) b) u)
+pub code-goes : (t : Turn) (s : State) (b : List ℕ) (u : State) → Clean s → takeCapture s ≡ go (b, u) → exec W.resumeCode t s ≡ go (push (codeOf (u .table .aligns) b) u)
 unfolding exec
 code-goes t s b u c e = let v = result (λ (b, u). Valid b × Clean u) (b, u) (taken c) e in rw (e, reads (code-valid (u .table .aligns) (v .0)))

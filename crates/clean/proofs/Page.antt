@@ -16,7 +16,7 @@ use Rattle.machine.specs.Section.{footnoteSection}
 use Rattle.machine.specs.Test.{isEmpty}
 use Rattle.machine.specs.Handlers.{handle}
 use Rattle.machine.specs.Totals.{over}
-use Rattle.machine.specs.Run.{endingOf, turnsOf, Answer, page, refused, stopped, sectionEnd, finish, runFrom, runWith, runOf, pageOf, machineOf}
+use Rattle.machine.specs.Run.{endingOf, fixedOf, areBegun, turnsOf, Answer, page, refused, stopped, sectionEnd, finish, runFrom, runWith, runOf, pageOf, machineOf}
 use Rattle.clean.specs.Clean.{Valid, Clean}
 use Rattle.clean.specs.Turns.{through}
 use Rattle.clean.proofs.Safe.{Safe, halts, goes, chain, result}
@@ -78,14 +78,15 @@ module _ (n : ℕ) (limit : State → Option ℕ) where
 
 with-valid : (limit : State → Option ℕ) (text : List ℕ) (o : Options) (es : List Event) → PageValid (runWith limit text o es)
 unfolding runWith
-with-valid limit text o es = on (endingOf (o .ending) text es)
+with-valid limit text o es = on (endingOf (o .ending) text es) (areBegun es)
   where
-    on : (x : Outcome Ending) → PageValid (elim x [
+    on : (x : Outcome Ending) (begun : Bool) → PageValid (elim x [
       | stop ↦ stopped 0
-      | go ending ↦ runFrom (length es) limit (turnsOf text o es) (start ending)
+      | go ending ↦ elim begun [ true ↦ runFrom (length es) limit (turnsOf text o es) (start (fixedOf o ending)) | false ↦ stopped 0 ]
     ])
-    on stop = tt
-    on (go ending) = run-valid (length es) limit (turnsOf text o es) (start-clean ending)
+    on stop begun = tt
+    on (go ending) true = run-valid (length es) limit (turnsOf text o es) (start-clean (fixedOf o ending))
+    on (go ending) false = tt
 
 -- a page that is answered is UTF-8, whatever the text and the events
 pub run-utf8 : (text : List ℕ) (o : Options) (room : ℕ) (es : List Event) (b : List ℕ) → runOf text o room es ≡ page b → isUtf8 b ≡ true

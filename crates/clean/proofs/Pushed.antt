@@ -4,18 +4,18 @@ use mathlib.Core.Bool.{Bool, true, false, cond}
 use mathlib.Core.List.{List, [], _∷_}
 use mathlib.Core.Option.{Option}
 use Prim.Native.Nat.{ℕ}
-use Rattle.machine.specs.declared.Ending.{Ending}
+use Rattle.machine.specs.declared.Fixed.{Fixed}
 use Rattle.machine.specs.State.{State, Media, Kept, start}
-use Rattle.machine.specs.Buffers.{pushTo, push, pushEncoded, openCapture, takeFrom, takeCapture, isEol, lastOr, newestOf, endLine, endLineIfNeeded}
+use Rattle.machine.specs.Buffers.{pushTo, push, pushEncoded, openCapture, takeFrom, takeCapture, isEol, lastOr, newestOf, endingText, endLine, endingIfNeeded, endLineIfNeeded}
 use Rattle.clean.specs.Clean.{Valid, All, empty, more, missing, Clean}
 use Rattle.clean.proofs.Valid.{none-valid, joined}
 use Rattle.clean.proofs.Texts.{ending-valid}
 use Rattle.clean.proofs.Encoded.{encoded}
 use Rattle.clean.proofs.Safe.{Safe, stops, goes}
 
-pub start-clean : (ending : Ending) → Clean (start ending)
+pub start-clean : (fixed : Fixed) → Clean (start fixed)
 unfolding start
-start-clean ending = record { page = none-valid; captures = empty; media = empty; setext = missing; kept = record { definitions = empty; footnotes = empty; calls = empty } }
+start-clean fixed = record { page = none-valid; captures = empty; media = empty; setext = missing; kept = record { definitions = empty; footnotes = empty; calls = empty } }
 
 -- ---- where no buffer is touched
 
@@ -50,15 +50,19 @@ pushed-encoded {s} c v = pushed c (encoded (s .flags .encode) v)
 
 pub ended : {s : State} → Clean s → Clean (endLine s)
 unfolding endLine
-ended {s} c = pushed c (ending-valid (s .ending))
+ended {s} c = pushed c (ending-valid (s .fixed .ending))
+
+pub needed-valid : (s : State) → Valid (endingIfNeeded s)
+unfolding endingIfNeeded
+needed-valid s = on (isEol (lastOr 10 (newestOf (s .page) (s .captures))))
+  where
+    on : (t : Bool) → Valid (cond t [] (endingText s))
+    on true = none-valid
+    on false = ending-valid (s .fixed .ending)
 
 pub ended-if : {s : State} → Clean s → Clean (endLineIfNeeded s)
 unfolding endLineIfNeeded
-ended-if {s} c = on (isEol (lastOr 10 (newestOf (s .page) (s .captures))))
-  where
-    on : (t : Bool) → Clean (cond t s (endLine s))
-    on true = c
-    on false = ended c
+ended-if {s} c = pushed c (needed-valid s)
 
 -- ---- captures
 

@@ -4,17 +4,14 @@ use mathlib.Core.Bool.{Bool, true, false}
 use mathlib.Core.List.{List}
 use mathlib.Core.Option.{Option, none, some}
 use Prim.Native.Nat.{ℕ, zero, suc, _-_}
-use lib.Dec.{eqb}
 use lib.ListN.{length}
 use Rattle.machine.specs.Outcome.{Outcome, stop, go, _>>=_, need}
 use Rattle.machine.specs.State.{State}
 use Rattle.machine.specs.Turn.{Turn}
-use Rattle.machine.specs.Media.{ownOf}
 use Rattle.machine.specs.Test.{test}
-use Rattle.machine.specs.Command.{Command, _▸_, whether, nothing, put, slice, chunk, reference, url, rank, start, alignment, lineEnding, lineEndingIfNeeded, buffer, drop, resume, resumeCode, hold, release, set, tighten, loosen, keepRank, forgetRank, seenData, fences, countFence, marker, first, columns, noColumns, nextColumn, firstColumn, missingCells, openMedia, closeMedia, store, emptyDestination, identify, leaveImage, seekDefinition, show, keepDefinition, footnoteLabel, keepFootnote, call, repeat, exec}
+use Rattle.machine.specs.Command.{Command, nothing, step, _▸_, whether, missingCells, perform, repeat, exec}
 use Rattle.machine.specs.Handlers.{commandOf}
-use Rattle.machine.specs.Totals.{size, mediaSizes, held}
-use Rattle.bounded.specs.Within.{fitting, partsFrom, ofNewest, newestIsBare, one, within, Goes, ends, turns}
+use Rattle.bounded.specs.Within.{fitting, one, inOrder, within, Goes, ends, turns}
 use Rattle.clean.specs.Clean.{Clean}
 use Rattle.clean.proofs.Safe.{Safe, stops, goes, chain, result}
 use Rattle.clean.proofs.Commands.{keeps}
@@ -57,52 +54,11 @@ cells (some l) k f g h s = repeats (length l - k) f g h s
 
 follows : (c : Command) (t : Turn) (s : State) → Follows (within c t s) (exec c t s)
 unfolding within exec
+follows nothing t s = one-is true (go s)
+follows (step x) t s = one-is (inOrder x s) (perform x t s)
 follows (c ▸ d) t s = behind (λ u. within d t u) (λ u. exec d t u) (follows c t s) (λ u. follows d t u)
 follows (whether q c d) t s = choice (test q t s) (follows c t s) (follows d t s)
 follows (missingCells c) t s = cells (s .table .aligns) (s .table .column) (λ u. within c t u) (λ u. exec c t u) (λ u. follows c t u) s
-follows hold t s = one-is (eqb (held s) 0) (exec hold t s)
-follows release t s = one-is (eqb (mediaSizes (s .media)) 0) (exec release t s)
-follows (store part) t s = one-is (eqb (ofNewest (partsFrom part) (s .media)) 0) (exec (store part) t s)
-follows emptyDestination t s = one-is (eqb (ofNewest (λ m. size (ownOf (m .destination))) (s .media)) 0) (exec emptyDestination t s)
-follows nothing t s = one-is true (exec nothing t s)
-follows (put text) t s = one-is true (exec (put text) t s)
-follows slice t s = one-is true (exec slice t s)
-follows chunk t s = one-is true (exec chunk t s)
-follows reference t s = one-is true (exec reference t s)
-follows (url scheme) t s = one-is true (exec (url scheme) t s)
-follows rank t s = one-is true (exec rank t s)
-follows start t s = one-is true (exec start t s)
-follows alignment t s = one-is true (exec alignment t s)
-follows lineEnding t s = one-is true (exec lineEnding t s)
-follows lineEndingIfNeeded t s = one-is true (exec lineEndingIfNeeded t s)
-follows buffer t s = one-is true (exec buffer t s)
-follows drop t s = one-is true (exec drop t s)
-follows (resume before after) t s = one-is true (exec (resume before after) t s)
-follows resumeCode t s = one-is true (exec resumeCode t s)
-follows (set flag x) t s = one-is true (exec (set flag x) t s)
-follows (tighten x) t s = one-is true (exec (tighten x) t s)
-follows loosen t s = one-is true (exec loosen t s)
-follows keepRank t s = one-is true (exec keepRank t s)
-follows forgetRank t s = one-is true (exec forgetRank t s)
-follows (seenData x) t s = one-is true (exec (seenData x) t s)
-follows (fences x) t s = one-is true (exec (fences x) t s)
-follows countFence t s = one-is true (exec countFence t s)
-follows (marker m) t s = one-is true (exec (marker m) t s)
-follows (first x) t s = one-is true (exec (first x) t s)
-follows columns t s = one-is true (exec columns t s)
-follows noColumns t s = one-is true (exec noColumns t s)
-follows nextColumn t s = one-is true (exec nextColumn t s)
-follows firstColumn t s = one-is true (exec firstColumn t s)
-follows (openMedia image) t s = one-is (newestIsBare (s .media)) (exec (openMedia image) t s)
-follows closeMedia t s = one-is true (exec closeMedia t s)
-follows (identify id) t s = one-is true (exec (identify id) t s)
-follows leaveImage t s = one-is true (exec leaveImage t s)
-follows seekDefinition t s = one-is true (exec seekDefinition t s)
-follows (show part) t s = one-is true (exec (show part) t s)
-follows keepDefinition t s = one-is true (exec keepDefinition t s)
-follows footnoteLabel t s = one-is true (exec footnoteLabel t s)
-follows keepFootnote t s = one-is true (exec keepFootnote t s)
-follows call t s = one-is true (exec call t s)
 
 pub within-exec : (c : Command) (t : Turn) (s u : State) → within c t s ≡ go u → exec c t s ≡ go u
 within-exec c t s u e = result (λ u. exec c t s ≡ go u) u (follows c t s) e

@@ -10,7 +10,9 @@ use Rattle.machine.specs.State.{State}
 use Rattle.machine.specs.Outcome.{go, need}
 use Rattle.machine.specs.Set.{setRank, setSeen, setMarker, setFirst}
 use Rattle.machine.specs.Test.{hasRank, hasSeenData, isFirstMarker, has, test}
-use Rattle.machine.specs.Command.{seenData, fences, marker, first, forgetRank, exec}
+use Rattle.machine.specs.Command.{exec}
+use Rattle.machine.specs.Words.{seenData, fences, marker, first, forgetRank}
+use Rattle.machine.proofs.Outcomes.{never}
 use Rattle.character_reference.specs.declared.Marker.{Marker}
 use Rattle.character_reference.specs.declared.Marker.the-variants as C
 use Rattle.bounded.specs.Within.{within}
@@ -22,7 +24,7 @@ use Rattle.context.specs.declared.Mark.the-variants as M
 use Rattle.context.specs.declared.Context.{Context}
 use Rattle.context.specs.Private.{Digit}
 use Rattle.context.specs.Rel.{Rel, Any, Sets, Tells, Ranks, MarkIs, ForgetsMarker, numberOf, markOf, answerDigit, markDigit}
-use Rattle.context.proofs.Plain.{never, stands, setting}
+use Rattle.context.proofs.Plain.{stands, setting}
 use Rattle.context.proofs.Digits.{other, rel-waits}
 
 -- ---- answers
@@ -127,11 +129,11 @@ module _ {c : Context} {d : ℕ} (e : d ≡ digitOf 7 (c .word)) where
 
 -- ---- the rank
 
-pub ranked : {c : Context} (x : Number) → Ranks x c (record { buffers = c .buffers; word = c .word; rank = x; tight = c .tight; table = c .table; ending = c .ending })
+pub ranked : {c : Context} (x : Number) → Ranks x c (record { buffers = c .buffers; word = c .word; rank = x; tight = c .tight; table = c .table; fixed = c .fixed })
 ranked x = record {
   ranks = λ w o b s r.
       let v = r .waits in
-      record { stand = stands (r .stand) refl refl; flags = r .flags; waits = record { rank = refl; seen = v .seen; fences = v .fences; marker = v .marker; first = v .first }; tight = r .tight; table = r .table; ending = r .ending };
+      record { stand = stands (r .stand) refl refl; flags = r .flags; waits = record { rank = refl; seen = v .seen; fences = v .fences; marker = v .marker; first = v .first }; tight = r .tight; table = r .table; fixed = r .fixed };
 }
 
 pub forgets : {c r : Context} → Ranks N.Unset c r → Sets forgetRank c r

@@ -16,19 +16,13 @@ use Rattle.machine.specs.Buffers.{push}
 use Rattle.machine.specs.Set.{Flag, alt, flagOf}
 use Rattle.machine.specs.Turn.{Turn, justBefore, isAfterDefinition}
 use Rattle.machine.specs.Test.{Test, is, isBehindFence, isHtmlAllowed, isLast, isBehindDefinition, test}
-use Rattle.machine.specs.Command.{Command, nothing, _▸_, whether, put, tag, exec}
+use Rattle.machine.specs.Command.{Command, nothing, _▸_, whether, exec}
+use Rattle.machine.specs.Words.{put, tag}
+use Rattle.machine.proofs.Outcomes.{never, first-goes}
 use Rattle.bounded.specs.Within.{within}
 use Rattle.bounded.proofs.Bounds.{done}
 use Rattle.context.specs.declared.Context.{Context}
 use Rattle.context.specs.Rel.{Rel, Any, Keeps, Sets, Pushes, PushesTag, Tells, FenceBefore, HtmlAllowed, IsLast, SeesEnding, Opens, Begins}
-use Rattle.context.proofs.Plain.{never}
-
--- ---- outcomes
-
--- where the whole goes on, so does the first part, and the second from there
-pub first-goes : {A B : Type 0} (x : Outcome A) (f : A → Outcome B) (u : B) → (x >>= f) ≡ go u → (v : A) × (x ≡ go v) × (f v ≡ go u)
-first-goes stop f u p = let z : _≡_ {A = ℕ} 0 1 = cc in absurd (omega arith)
-first-goes (go v) f u p = (v, refl, p)
 
 module _ {View : Turn → Type 0} where
   pub any : {d : Command} {c r : Context} {w o w′ o′ : List ℕ} → Keeps Any d c w o r w′ o′ → Keeps View d c w o r w′ o′

@@ -13,7 +13,8 @@ use Rattle.machine.specs.State.{State}
 use Rattle.machine.specs.Outcome.{go}
 use Rattle.machine.specs.Set.{setTight}
 use Rattle.machine.specs.Test.{isTight, isInContainer, tightOf, isEmpty, test}
-use Rattle.machine.specs.Command.{tighten, loosen, tail, exec}
+use Rattle.machine.specs.Command.{tail, exec}
+use Rattle.machine.specs.Words.{tighten, loosen}
 use Rattle.bounded.specs.Within.{within}
 use Rattle.bounded.proofs.Bounds.{fits}
 use Rattle.context.specs.declared.Context.{Context}
@@ -29,7 +30,7 @@ newest-is [] = refl
 newest-is (x ∷ a) = refl
 
 abbrev withTight : Tight → Context → Context
-withTight x c = record { buffers = c .buffers; word = c .word; rank = c .rank; tight = x; table = c .table; ending = c .ending }
+withTight x c = record { buffers = c .buffers; word = c .word; rank = c .rank; tight = x; table = c .table; fixed = c .fixed }
 
 module _ {c : Context} where
   pub widens : {x : Bool} {y : Tight} → More x (c .tight) y → Sets (tighten x) c (withTight y c)
@@ -38,13 +39,13 @@ module _ {c : Context} where
       setting (λ s. setTight (x ∷ s .tight) s) (λ t s. refl)
       (λ w o b s f r.
       let n : suc (length (s .tight)) ≤ 64 = fits (setTight (x ∷ s .tight) s) f .tight in
-      record { stand = stands (r .stand) refl refl; flags = r .flags; waits = r .waits; tight = k .more (s .tight) (omega arith) (r .tight); table = r .table; ending = r .ending })
+      record { stand = stands (r .stand) refl refl; flags = r .flags; waits = r .waits; tight = k .more (s .tight) (omega arith) (r .tight); table = r .table; fixed = r .fixed })
 
   pub loosens : {y : Tight} → Fewer (c .tight) y → Sets loosen c (withTight y c)
   unfolding exec within
   loosens k =
       setting (λ s. setTight (tail (s .tight)) s) (λ t s. refl)
-      (λ w o b s f r. record { stand = stands (r .stand) refl refl; flags = r .flags; waits = r .waits; tight = rw (← tail-is (s .tight)) (k .fewer (s .tight) (r .tight)); table = r .table; ending = r .ending })
+      (λ w o b s f r. record { stand = stands (r .stand) refl refl; flags = r .flags; waits = r .waits; tight = rw (← tail-is (s .tight)) (k .fewer (s .tight) (r .tight)); table = r .table; fixed = r .fixed })
 
   pub tells-tight : {x : Bool} → Newest (c .tight) x → Tells Any isTight c x
   unfolding test

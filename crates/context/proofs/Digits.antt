@@ -56,7 +56,7 @@ sets-flag {d = d} x e k = record {
       let p = rw (← q) at (k .placed) in
       rw (k .is, ← e) (setting (setFlag f (not (eqb d 0))) (λ t s. refl)
       (λ w o b s i r.
-      record { stand = stands (r .stand) refl refl; flags = one-flag f p ∙ ap (withFlag f (not (eqb d 0))) (r .flags); waits = still-waits (low-place f) p (r .waits); tight = r .tight; table = r .table; ending = r .ending }));
+      record { stand = stands (r .stand) refl refl; flags = one-flag f p ∙ ap (withFlag f (not (eqb d 0))) (r .flags); waits = still-waits (low-place f) p (r .waits); tight = r .tight; table = r .table; fixed = r .fixed }));
 }
 
 pub flag-on : {k : ℕ} {c r : Context} {x : Bool} → x ≡ true → Digit k 1 c r → SetsFlag k x c r
@@ -89,4 +89,4 @@ still-flags : {k x w r : ℕ} → 5 ≤ k → Placed k x w r → flagsOf r ≡ f
 still-flags h p = rw (p .others 0 (λ e. omega arith), p .others 1 (λ e. omega arith), p .others 2 (λ e. omega arith), p .others 3 (λ e. omega arith), p .others 4 (λ e. omega arith))
 
 pub rel-waits : {k x v : ℕ} {c : Context} {w o b : List ℕ} {s : State} {a : State.Waiting} → 5 ≤ k → Placed k x (c .word) v → Rel c w o b s → Waits v (c .rank) a → Rel (withWord v c) w o b (setWaiting a s)
-rel-waits h p r a = record { stand = stands (r .stand) refl refl; flags = still-flags h p ∙ r .flags; waits = a; tight = r .tight; table = r .table; ending = r .ending }
+rel-waits h p r a = record { stand = stands (r .stand) refl refl; flags = still-flags h p ∙ r .flags; waits = a; tight = r .tight; table = r .table; fixed = r .fixed }

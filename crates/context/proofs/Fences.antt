@@ -11,14 +11,16 @@ use Rattle.machine.specs.State.{State}
 use Rattle.machine.specs.Outcome.{stop, go, _>>=_, need}
 use Rattle.machine.specs.Set.{setFences}
 use Rattle.machine.specs.Test.{isFirstFence, isFencedOnce, isFenceMissing, has, test}
-use Rattle.machine.specs.Command.{fences, countFence, marker, first, exec}
+use Rattle.machine.specs.Command.{exec}
+use Rattle.machine.specs.Words.{fences, countFence, marker, first}
+use Rattle.machine.proofs.Outcomes.{never}
 use Rattle.bounded.specs.Within.{within}
 use Rattle.bounded.proofs.Bounds.{done}
 use Rattle.word.specs.Word.{digitOf}
 use Rattle.context.specs.declared.Context.{Context}
 use Rattle.context.specs.Private.{Digit}
 use Rattle.context.specs.Rel.{Rel, Any, Sets, Tells, fencesDigit}
-use Rattle.context.proofs.Plain.{never, setting}
+use Rattle.context.proofs.Plain.{setting}
 use Rattle.context.proofs.Digits.{other, rel-waits}
 
 rel-fenced : {d : ℕ} {c : Context} {w o b : List ℕ} {s : State} (x : Option ℕ) {r : Context} → d ≡ fencesDigit x → Digit 6 d c r → Rel c w o b s → Rel r w o b (setFences x s)

@@ -15,9 +15,6 @@ use Rattle.bounded.proofs.Bounds.{done}
 use Rattle.context.specs.declared.Context.{Context}
 use Rattle.context.specs.Rel.{Rel, Sets}
 
-pub never : {X A : Type 0} {u : A} → stop ≡ go u → X
-never p = let z : _≡_ {A = ℕ} 0 1 = cc in absurd (omega arith)
-
 -- the buffers of a state that has the same page and captures
 pub stands : {x : Buffers} {w st o : List ℕ} {s u : State} → Stand x w st o s → u .page ≡ s .page → u .captures ≡ s .captures → Stand x w st o u
 stands h p q = record { page = rw p (h .page); flat-is = rw q (h .flat-is); depth = rw q (h .depth); starts-are = rw q (h .starts-are) }

@@ -19,8 +19,10 @@ use Rattle.machine.specs.Set.{encode, setCaptures}
 use Rattle.machine.specs.Buffers.{push, pushEncoded, openCapture, takeCapture}
 use Rattle.machine.specs.Turn.{Turn, spanOf, sliceOf, asStr, strOf, ownStr}
 use Rattle.machine.specs.Test as Test
-use Rattle.machine.specs.Command as Command
-use Rattle.machine.specs.Command.{Command, _▸_, slice, buffer, exec}
+use Rattle.machine.specs.Words as Words
+use Rattle.machine.specs.Command.{Command, _▸_, exec}
+use Rattle.machine.specs.Words.{slice, buffer}
+use Rattle.machine.proofs.Outcomes.{never, first-goes, joins}
 use Rattle.buffers.specs.declared.Buffers.{Buffers}
 use Rattle.buffers.specs.Stand as Stand
 use Rattle.buffers.specs.Stand.{Stand}
@@ -29,8 +31,7 @@ use Rattle.bounded.proofs.Bounds.{done, fits}
 use Rattle.context.specs.declared.Context.{Context}
 use Rattle.context.specs.Rel.{Rel, Any, Sees, Keeps, Takes, Opens, Begins, Ends, Tells}
 use Rattle.context.proofs.Laws.{withBuffers, rel-buffers, pushed}
-use Rattle.context.proofs.Plain.{never}
-use Rattle.context.proofs.Commands.{first-goes, flag-told}
+use Rattle.context.proofs.Commands.{flag-told}
 
 -- ---- the event's slice
 
@@ -66,8 +67,8 @@ abbrev encoded : Turn → State → List ℕ → List ℕ
 encoded t s b = encodeOf (s .flags .encode) b
 
 is-slice : (t : Turn) (s : State) → within slice t s ≡ one true (ownStr t >>= λ b. go (push (encoded t s b) s))
-unfolding exec within pushEncoded
-is-slice t s = refl
+unfolding exec within
+is-slice t s = ap (one true) (joins (ownStr t) (encoded t s) (λ b. go (push b s)))
 
 module _ (text : List ℕ) (e : Event) where
   pub own-slice : (t : Turn) (b : List ℕ) → Sees text e t → ownStr t ≡ go b → Sliced text e b
@@ -137,12 +138,12 @@ module _ {c : Context} {starts : List ℕ} where
             waits = r .waits;
             tight = r .tight;
             table = r .table;
-            ending = r .ending;
+            fixed = r .fixed;
           });
     };
   }
 
-  pub ends : {x : Buffers} → Stand.Drops (c .buffers) starts x → Ends Command.drop c starts (withBuffers x c)
+  pub ends : {x : Buffers} → Stand.Drops (c .buffers) starts x → Ends Words.drop c starts (withBuffers x c)
   unfolding exec within
   ends {x} k = record {
     ends = λ w o. record {
@@ -154,7 +155,7 @@ module _ {c : Context} {starts : List ℕ} where
             waits = r .waits;
             tight = r .tight;
             table = r .table;
-            ending = r .ending;
+            fixed = r .fixed;
           });
     };
   }
@@ -173,7 +174,7 @@ written f s u p = on (s .captures) refl
 left : (t : List ℕ) (ds : List (List ℕ)) (s : State) {w o : List ℕ} {b : List ℕ} {c : Context} {x : Buffers} {w′ o′ : List ℕ} → Rel c w o b s → Stand x w′ b o′ (push t (setCaptures ds s)) → Rel (withBuffers x c) w′ o′ b (push t (setCaptures ds s))
 left t ds s r k =
     let e = pushed t (setCaptures ds s) in
-    record { stand = k; flags = r .flags ∙ sym (e .flags); waits = rw (e .waiting) (r .waits); tight = rw (e .tight) (r .tight); table = rw (e .table) (r .table); ending = r .ending ∙ sym (e .ending) }
+    record { stand = k; flags = r .flags ∙ sym (e .flags); waits = rw (e .waiting) (r .waits); tight = rw (e .tight) (r .tight); table = rw (e .table) (r .table); fixed = r .fixed ∙ sym (e .fixed) }
 
 module _ {View : Turn → Type 0} {c : Context} {starts w o w′ o′ : List ℕ} {x : Buffers} where
   pub taking : {d : Command} (f : List ℕ → List ℕ) → ((t : Turn) (s u : State) → View t → Rel c w o starts s → within d t s ≡ go u → (takeCapture s >>= λ (b, v). go (push (f b) v)) ≡ go u)
@@ -185,7 +186,7 @@ module _ {View : Turn → Type 0} {c : Context} {starts w o w′ o′ : List ℕ
   }
 
   -- between two texts
-  pub resumes : {p q : String} → Stand.Resumes (λ b. bytes p ++ b ++ bytes q) (c .buffers) starts w o x w′ o′ → Takes View (Command.resume p q) c w starts o (withBuffers x c) w′ o′
+  pub resumes : {p q : String} → Stand.Resumes (λ b. bytes p ++ b ++ bytes q) (c .buffers) starts w o x w′ o′ → Takes View (Words.resume p q) c w starts o (withBuffers x c) w′ o′
   unfolding exec within
   resumes {p} {q} k = taking (λ b. bytes p ++ b ++ bytes q) (λ t s u v r e. done true (takeCapture s >>= λ (b, v). go (push (bytes p ++ b ++ bytes q) v)) u e .went) k
 

@@ -4,14 +4,14 @@ use mathlib.Core.Bool.{Bool}
 use Prim.Native.Nat.{ℕ}
 use Rattle.machine.specs.Set.{Flag}
 use Rattle.machine.specs.Test.{is}
-use Rattle.machine.specs.Command.{set}
+use Rattle.machine.specs.Words.{set}
 use Rattle.word.specs.Word.{Placed}
 use Rattle.context.specs.declared.Context.{Context}
 use Rattle.context.specs.Rel.{Any, Sets, Tells, placeOf}
 
 -- with another word
 abbrev pub withWord : ℕ → Context → Context
-withWord x c = record { buffers = c .buffers; word = x; rank = c .rank; tight = c .tight; table = c .table; ending = c .ending }
+withWord x c = record { buffers = c .buffers; word = x; rank = c .rank; tight = c .tight; table = c .table; fixed = c .fixed }
 
 -- the flag at a place is set, or asked for
 pub record SetsFlag (place : ℕ) (x : Bool) (c r : Context) : Type 0 where

@@ -16,12 +16,13 @@ use Rattle.machine.specs.declared.Flags.{Flags}
 use Rattle.machine.specs.Set.{Flag, slurp, encode, raw, alt, head, setRank, setMarker}
 use Rattle.machine.specs.State as State
 use Rattle.machine.specs.State.{State, start}
-use Rattle.machine.specs.declared.Ending.{Ending}
+use Rattle.machine.specs.declared.Fixed.{Fixed}
 use Rattle.machine.specs.Outcome.{Outcome, stop, go}
 use Rattle.machine.specs.Buffers.{push}
 use Rattle.machine.specs.Turn.{Turn, justBefore, isAfterDefinition}
 use Rattle.machine.specs.Test.{Test, test}
-use Rattle.machine.specs.Command.{Command, tag}
+use Rattle.machine.specs.Command.{Command}
+use Rattle.machine.specs.Words.{tag}
 use Rattle.bounded.specs.Within.{within}
 use Rattle.tight.specs.Tight.{Tightened}
 use Rattle.word.specs.Word.{digitOf}
@@ -111,7 +112,7 @@ pub record Rel (c : Context) (captures out starts : List ℕ) (s : State) : Type
   pub waits : Waits (c .word) (c .rank) (s .waiting)
   pub tight : Tightened (c .tight) (s .tight)
   pub table : Tabled (c .table) (s .table)
-  pub ending : c .ending ≡ s .ending
+  pub fixed : c .fixed ≡ s .fixed
 
 -- ---- what a function does
 
@@ -172,8 +173,8 @@ pub record PushesTag (text : List ℕ) (c : Context) (captures out : List ℕ) (
   pub tags : (name : String) → bytes name ≡ text → Keeps Any (tag name) c captures out r captures′ out′
 
 -- the state before the first event is the machine's
-pub record Begun (ending : Ending) (r : Context) : Type 0 where
-  pub begun : (captures out starts : List ℕ) → Rel r captures out starts (start ending)
+pub record Begun (fixed : Fixed) (r : Context) : Type 0 where
+  pub begun : (captures out starts : List ℕ) → Rel r captures out starts (start fixed)
 
 -- the answer to a question
 pub record Tells (View : Turn → Type 0) (q : Test) (c : Context) (x : Bool) : Type 0 where

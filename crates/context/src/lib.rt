@@ -4,13 +4,13 @@ ghost use mathlib.Core.Option.{none, some};
 ghost use Prim.Native.Nat.{_<_};
 ghost use Rattle.machine.specs.Set.{slurp, encode, raw, alt, head};
 ghost use Rattle.machine.specs.Test.{is, isTight, isInContainer, hasRank, hasSeenData, isFirstFence, isFencedOnce, isFenceMissing, isFirstMarker};
-ghost use Rattle.machine.specs.Command.{slice, buffer, drop, lineEnding, lineEndingIfNeeded, set, tighten, loosen, marker, forgetRank, fences, countFence, seenData, first};
+ghost use Rattle.machine.specs.Words.{slice, buffer, drop, lineEnding, lineEndingIfNeeded, set, tighten, loosen, marker, forgetRank, fences, countFence, seenData, first};
 ghost use Rattle.context.specs.Rel.{Any, Sees, Keeps, Begins, Ends, Pushes, PushesTag, Begun, Sets, Tells, Ranks, MarkIs, ForgetsMarker, answerOf, answerDigit, markDigit};
 ghost use Rattle.context.specs.Private.{Digit, SetsFlag, TellsFlag};
 use buffers::Buffers;
 use character_reference::Marker;
 use event::Event;
-use machine::Ending;
+use machine::Fixed;
 use tight::Tight;
 
 // A number that may not be known yet.
@@ -48,7 +48,7 @@ pub struct Context {
     // which containers are
     pub tight: Tight,
     pub table: Table,
-    pub ending: Ending,
+    pub fixed: Fixed,
 }
 
 // ---- where each stands in the word
@@ -75,8 +75,8 @@ const FIRST: usize = 8;
 const AT_START: u64 = 4;
 
 // Before the first event.
-pub fn new(ending: Ending) -> Context
-    ensures { λ r. ⌜ Begun ending r ⌝ }
+pub fn new(fixed: Fixed) -> Context
+    ensures { λ r. ⌜ Begun fixed r ⌝ }
 {
     let buffers = Buffers {
         page: 0,
@@ -96,7 +96,7 @@ pub fn new(ending: Ending) -> Context
         rank: Number::Unset,
         tight,
         table,
-        ending,
+        fixed,
     }
 }
 
@@ -115,7 +115,8 @@ pub fn line_ending(c: Context, captures: &mut [u8], out: &mut [u8]) -> Context
     ensures { λ r. ⌜ Keeps Any lineEnding c (now (captures .entry)) (now (out .entry)) r (now (captures .exit)) (now (out .exit)) ⌝ }
 {
     let mut r = c;
-    let ending = c.ending;
+    let fixed = c.fixed;
+    let ending = fixed.ending;
     r.buffers = buffers::line_ending_by(c.buffers, true, ending, captures, out);
     r
 }
@@ -124,7 +125,8 @@ pub fn line_ending_if_needed(c: Context, captures: &mut [u8], out: &mut [u8]) ->
     ensures { λ r. ⌜ Keeps Any lineEndingIfNeeded c (now (captures .entry)) (now (out .entry)) r (now (captures .exit)) (now (out .exit)) ⌝ }
 {
     let mut r = c;
-    let ending = c.ending;
+    let fixed = c.fixed;
+    let ending = fixed.ending;
     r.buffers = buffers::line_ending_by(c.buffers, false, ending, captures, out);
     r
 }
@@ -311,14 +313,14 @@ pub fn with_rank(c: Context, x: Number) -> Context
     let word = c.word;
     let tight = c.tight;
     let table = c.table;
-    let ending = c.ending;
+    let fixed = c.fixed;
     Context {
         buffers,
         word,
         rank: x,
         tight,
         table,
-        ending,
+        fixed,
     }
 }
 

@@ -10,10 +10,11 @@ use Rattle.machine.specs.declared.Options.{Options}
 use Rattle.machine.specs.Turn.{Turn}
 use Rattle.machine.specs.Command.{Command, _▸_}
 use Rattle.machine.specs.OnList.{onEnterList}
+use Rattle.machine.proofs.Outcomes.{first-goes}
 use Rattle.bounded.specs.Within.{within}
 use Rattle.context.specs.declared.Context.{Context}
 use Rattle.context.specs.Rel.{Keeps, Begins, Sets, HtmlAllowed}
-use Rattle.context.proofs.Commands.{first-goes, narrow}
+use Rattle.context.proofs.Commands.{narrow}
 use Rattle.on_list.specs.Lists.{OpensList}
 use Rattle.table.specs.Table.{IsEvent}
 use Rattle.turns.specs.Turns.{TurnAt, Among}

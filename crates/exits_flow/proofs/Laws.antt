@@ -11,12 +11,13 @@ use Rattle.event.specs.Event.{eventAt}
 use Rattle.machine.specs.declared.Options.{Options}
 use Rattle.machine.specs.Turn.{Turn, lookBack}
 use Rattle.machine.specs.Command.{Command, _▸_}
+use Rattle.machine.proofs.Outcomes.{first-goes}
 use Rattle.bounded.specs.Within.{within}
 use Rattle.look_back.specs.Behind.{eventsBefore, nameOf, isAfterFence}
 use Rattle.look_back.proofs.Laws.{name-is, fence-is}
 use Rattle.context.specs.declared.Context.{Context}
 use Rattle.context.specs.Rel.{Any, Sees, FenceBefore, Keeps, Begins, Ends}
-use Rattle.context.proofs.Commands.{first-goes, narrow}
+use Rattle.context.proofs.Commands.{narrow}
 use Rattle.on_list.specs.Lists.{IsOrdered, LooksBack}
 use Rattle.turns.specs.Turns.{TurnAt, Among}
 use Rattle.turns.proofs.Turns.{seen-as}

@@ -20,10 +20,8 @@ use Rattle.machine.specs.declared.Ending.the-variants.{Lf, Cr, CrLf}
 use Rattle.machine.specs.Outcome.{Outcome, stop, go, _>>=_}
 use Rattle.machine.specs.Turn.{isExit, spanOf, sliceOf, asStr, strOf}
 use Rattle.machine.specs.Run.{parseEnding, endingOf}
+use Rattle.machine.proofs.Outcomes.{never}
 use Rattle.find_ending.specs.Ending.{EndsLine, Parses, Finds}
-
-never : {X A : Type 0} {u : A} → stop ≡ go u → X
-never p = let z : _≡_ {A = ℕ} 0 1 = cc in absurd (omega arith)
 
 -- ---- a slice
 

@@ -19,7 +19,7 @@ use Rattle.machine.specs.Outcome.{go}
 use Rattle.machine.specs.State.{State, start}
 use Rattle.machine.specs.Turn.{Turn}
 use Rattle.machine.specs.Handlers.{commandOf, handle}
-use Rattle.machine.specs.Run.{endingOf, passFrom, turnsOf}
+use Rattle.machine.specs.Run.{endingOf, fixedOf, passFrom, turnsOf}
 use Rattle.bounded.specs.Within.{Goes, ends, turns}
 use Rattle.clean.specs.Turns.{through}
 use Rattle.clean.proofs.Within.{within-exec}
@@ -100,6 +100,6 @@ run-through (ends s) = refl
 run-through (turns t {s = s} {u} w g) = rw (through, within-exec (commandOf t) t s u w) (run-through g)
 
 pub runs : (text events : List ℕ) (o : Options) → checkOf text events ≡ Yes
-    → (ending : Ending) × (endingOf (o .ending) text (eventsOf events) ≡ go ending) × (v : State) × (through (passFrom true text o false 0 [] (eventsOf events) ++ passFrom false text o false 0 [] (eventsOf events)) (start ending) ≡ go v)
+    → (ending : Ending) × (endingOf (o .ending) text (eventsOf events) ≡ go ending) × (v : State) × (through (passFrom true text o false 0 [] (eventsOf events) ++ passFrom false text o false 0 [] (eventsOf events)) (start (fixedOf o ending)) ≡ go v)
 unfolding turnsOf
 runs text events o passes = let g = Never.goes text events o passes in (g .0, g .1, g .2, run-through (g .3))

@@ -7,7 +7,7 @@ use lib.ListN.{drop, getD}
 use Rattle.machine.specs.Outcome.{need}
 use Rattle.machine.specs.State.{State, Span, Media}
 use Rattle.machine.specs.Set.{setCaptures, setMedia, setCalls, setDestination, addDefinition, setFlag, alt}
-use Rattle.machine.specs.Buffers.{pushTo, push, pushEncoded, takeFrom, takeCapture, openCapture, isEol, lastOr, newestOf, endLine, endLineIfNeeded}
+use Rattle.machine.specs.Buffers.{pushTo, push, pushEncoded, takeFrom, takeCapture, openCapture}
 use Rattle.machine.specs.Turn.{Turn, strOf}
 use Rattle.machine.specs.Media.{splitMedia, newestMedia, onNewest, anyImage, leaveAlt, labelOf, destinationOf, seek, define}
 use Rattle.machine.specs.Footnote.{splitLabels, keep, callIndex, countAt, callNote}
@@ -54,18 +54,6 @@ module _ (x : Shape) (s u : State) (d : Does x s u) where
   pub wrote-encoded : (b : List ℕ) → Does x s (pushEncoded b u)
   unfolding pushEncoded
   wrote-encoded b = wrote _
-
-pub line : (s : State) → Does idle s (endLine s)
-unfolding endLine
-line s = pushed _ s
-
-pub line-if : (s : State) → Does idle s (endLineIfNeeded s)
-unfolding endLineIfNeeded
-line-if s = on (isEol (lastOr 10 (newestOf (s .page) (s .captures))))
-  where
-    on : (r : Bool) → Does idle s (cond r s (endLine s))
-    on true = same s s refl refl refl refl refl
-    on false = line s
 
 -- ---- captures
 

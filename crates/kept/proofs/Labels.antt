@@ -25,12 +25,10 @@ use Rattle.machine.specs.Turn.{sliceOf, asStr, strOf}
 use Rattle.machine.specs.Media.{definitionLabels}
 use Rattle.machine.specs.Footnote.{callLabels}
 use Rattle.machine.specs.Section.{footnoteLabels}
+use Rattle.machine.proofs.Outcomes.{never}
 use Rattle.kept.specs.Kept.{LabelIs, Labels}
 
 -- ---- the machine's slices
-
-pub stops : {X A : Type 0} {u : A} → stop ≡ go u → X
-stops p = let z : _≡_ {A = ℕ} 0 1 = cc in absurd (omega arith)
 
 slice-is : (text : List ℕ) (p : Span) (label : List ℕ) → sliceOf text p ≡ go label → LabelIs text (p .from) (p .to) label
 unfolding sliceOf
@@ -42,7 +40,7 @@ slice-is text p label q = on (leb (p .from) (p .to) && leb (p .to) (length text)
       inside = leb-true (p .to) (length text) (and-right (leb (p .from) (p .to)) (leb (p .to) (length text)) i);
       is = cc;
     }
-    on false i r = stops r
+    on false i r = never r
 
 pub str-is : (b label : List ℕ) → asStr b ≡ go label → b ≡ label
 unfolding asStr
@@ -50,14 +48,14 @@ str-is b label q = on (isUtf8 b) q
   where
     on : (x : Bool) → (if x then go b else stop) ≡ go label → b ≡ label
     on true r = cc
-    on false r = stops r
+    on false r = never r
 
 pub label-is : (text : List ℕ) (p : Span) (label : List ℕ) → strOf text p ≡ go label → LabelIs text (p .from) (p .to) label
 unfolding strOf
 label-is text p label q = on (sliceOf text p) refl q
   where
     on : (o : Outcome (List ℕ)) → sliceOf text p ≡ o → (o >>= asStr) ≡ go label → LabelIs text (p .from) (p .to) label
-    on stop e r = stops r
+    on stop e r = never r
     on (go b) e r = slice-is text p label (e ∙ ap go (str-is b label r))
 
 -- ---- one more label

@@ -8,7 +8,7 @@ use lib.Seq.{drop-drop}
 use Rattle.normalize_identifier.specs.Search.{parts, labelsOf}
 use Rattle.signature.specs.Signed.{Signs}
 use Rattle.regions.specs.Regions.{regionAt}
-use Rattle.machine.specs.declared.Ending.{Ending}
+use Rattle.machine.specs.declared.Fixed.{Fixed}
 use Rattle.machine.specs.State as Machine
 use Rattle.machine.specs.State.{State, start}
 use Rattle.machine.specs.Totals.{definitionSizes, footnoteSizes, kept}
@@ -29,9 +29,9 @@ no-labels text from to = record {
 no-signs : (firsts seconds : List ℕ) → Signs firsts seconds []
 no-signs firsts seconds = record { signs = λ k h. absurd (omega arith) }
 
-pub keeps-start : (ending : Ending) (text region : List ℕ) (t : Tables) → Long t → Keeps nothing text region t (start ending)
+pub keeps-start : (fixed : Fixed) (text region : List ℕ) (t : Tables) → Long t → Keeps nothing text region t (start fixed)
 unfolding start kept
-keeps-start ending text region t h = record {
+keeps-start fixed text region t h = record {
   long = h;
   end = refl;
   definitions = λ m. record { rows = refl; labels = no-labels text _ _; signed = no-signs _ _; each = λ k d p. absurd (let x = index-low [] k d p in omega arith) };

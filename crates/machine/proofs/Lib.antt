@@ -1,3 +1,4 @@
+pub mod Outcomes
 pub mod Running
 pub mod Answers
 pub mod Examples

@@ -1,15 +1,15 @@
 -- For computed examples: to unfold `running` is to unfold the whole definition. Made by tools/machine_pages.py. Assumes nothing.
 use Prim.Native.Nat.{ℕ}
-use Rattle.utf8.specs.Utf8.{afterFirst, isUtf8, inside, lengthOf, charOf}
+use Rattle.utf8.specs.Utf8.{afterFirst, lengthOf, isUtf8, inside, charOf}
 use Rattle.encode.specs.Encode.{encodeByte, encodeOf}
 use Rattle.sanitize_uri.specs.Url.{twoAlnum, stays, hexUpper, percent, urlByte, normalizeOf, sanitizeOf}
 use Rattle.sanitize_uri.specs.Protocols.{colonFrom, colonOf, isAllowed, sanitizeWithProtocolsOf}
 use Rattle.normalize_identifier.specs.Identity.{blank, folded, identityFrom, identityOf, blanks, leftAt, spelled}
 use Rattle.normalize_identifier.specs.Search.{parts, labelsOf, firstFrom, firstSame}
-use Rattle.character_reference.specs.Reference.{isReplaced, codeOf, digitValue, numeralOf, lookup, namedOf, valueOf, referenceOf, writtenOf}
+use Rattle.character_reference.specs.Reference.{writtenOf, isReplaced, codeOf, digitValue, numeralOf, lookup, namedOf, valueOf, referenceOf}
 use Rattle.event.specs.Event.{eventOf, eventAt, eventsIn, eventsOf, recordOf, alignmentsFrom, alignmentsOf}
 use Rattle.machine.specs.State.{start}
-use Rattle.machine.specs.Buffers.{push, pushEncoded, openCapture, takeCapture, endLine, endLineIfNeeded}
+use Rattle.machine.specs.Buffers.{push, pushEncoded, openCapture, takeCapture, endLine, endingIfNeeded, endLineIfNeeded}
 use Rattle.machine.specs.Turn.{sliceOf, asStr, strOf, urlOf, lookBack}
 use Rattle.machine.specs.Text.{digitsFrom, decimal, startOf, unescapePipes, trimCode, codeOf as Text-codeOf}
 use Rattle.machine.specs.Media.{newestMedia, onNewest, leaveAlt, seek, partText, define}
@@ -25,8 +25,8 @@ use Rattle.machine.specs.OnMedia.{onEnterBuffer, onExitDrop, onEnterLink
 use Rattle.machine.specs.OnFootnote.{onEnterGfmFootnoteCall, onExitGfmFootnoteCall, onEnterGfmFootnoteDefinition, onExitGfmFootnoteDefinitionLabelString, onExitGfmFootnoteDefinitionPrefix, onExitGfmFootnoteDefinition}
 use Rattle.machine.specs.Handlers.{rows, commandOf, handle}
 use Rattle.machine.specs.Totals.{captured, held, kept, over}
-use Rattle.machine.specs.Run.{endingOf, passFrom, turnsOf, finish, runFrom, runWith, runOf, machineOf}
+use Rattle.machine.specs.Run.{endingOf, passFrom, areBegun, turnsOf, finish, runFrom, runWith, runOf, machineOf}
 
 unfoldable pub running : ℕ
-unfolding afterFirst isUtf8 inside lengthOf charOf encodeByte encodeOf twoAlnum stays hexUpper percent urlByte normalizeOf sanitizeOf colonFrom colonOf isAllowed sanitizeWithProtocolsOf blank folded identityFrom identityOf blanks leftAt spelled parts labelsOf firstFrom firstSame isReplaced codeOf digitValue numeralOf lookup namedOf valueOf referenceOf writtenOf eventOf eventAt eventsIn eventsOf recordOf alignmentsFrom alignmentsOf start push pushEncoded openCapture takeCapture endLine endLineIfNeeded sliceOf asStr strOf urlOf lookBack digitsFrom decimal startOf unescapePipes trimCode Text-codeOf newestMedia onNewest leaveAlt seek partText define addressOf keep countAt timesAt callText callNote bodyEnd endsParagraph backreference backreferences pushBody footnoteItem footnoteItems footnoteSection test exec onExitData onExitCharacterReferenceMarker onExitCharacterReferenceMarkerNumeric onExitCharacterReferenceMarkerHexadecimal onExitCharacterReferenceValue onExitLineEnding onExitBlankLineEnding onEnterEmphasis onExitEmphasis onEnterStrong onExitStrong onExitBreak onEnterRawText onExitRawText onEnterHtmlText onEnterHtmlFlow onExitHtml onExitHtmlData generateAutolink onExitAutolinkEmail onExitAutolinkProtocol onEnterParagraph onExitParagraph onEnterBlockQuote onExitBlockQuote onExitThematicBreak onExitHeadingAtxSequence onExitHeadingAtxText onExitHeadingAtx onExitHeadingSetextText setextRank onExitHeadingSetextUnderlineSequence onEnterCodeIndented onEnterRawFlow onExitRawFlowFence onExitRawFlowFenceInfo onExitRawFlowChunk onExitRawFlow onEnterList onExitList onEnterListItemMarker onExitListItemValue onExitListItem onEnterGfmTable onExitGfmTable onEnterGfmTableHead onExitGfmTableHead onEnterGfmTableBody onExitGfmTableBody onEnterGfmTableCell onExitGfmTableCell onEnterGfmTableRow onExitGfmTableRow onEnterBuffer onExitDrop onEnterLink onEnterImage onExitLabel onExitLabelText onExitReferenceString onEnterResource onEnterResourceDestinationString onExitResourceDestinationString onExitResourceTitleString onExitMedia onEnterDefinition onExitDefinitionLabelString onEnterDefinitionDestinationString onExitDefinitionDestinationString onExitDefinitionTitleString onExitDefinition onEnterGfmFootnoteCall onExitGfmFootnoteCall onEnterGfmFootnoteDefinition onExitGfmFootnoteDefinitionLabelString onExitGfmFootnoteDefinitionPrefix onExitGfmFootnoteDefinition rows commandOf handle captured held kept over endingOf passFrom turnsOf finish runFrom runWith runOf machineOf
+unfolding afterFirst lengthOf isUtf8 inside charOf encodeByte encodeOf twoAlnum stays hexUpper percent urlByte normalizeOf sanitizeOf colonFrom colonOf isAllowed sanitizeWithProtocolsOf blank folded identityFrom identityOf blanks leftAt spelled parts labelsOf firstFrom firstSame writtenOf isReplaced codeOf digitValue numeralOf lookup namedOf valueOf referenceOf eventOf eventAt eventsIn eventsOf recordOf alignmentsFrom alignmentsOf start push pushEncoded openCapture takeCapture endLine endingIfNeeded endLineIfNeeded sliceOf asStr strOf urlOf lookBack digitsFrom decimal startOf unescapePipes trimCode Text-codeOf newestMedia onNewest leaveAlt seek partText define addressOf keep countAt timesAt callText callNote bodyEnd endsParagraph backreference backreferences pushBody footnoteItem footnoteItems footnoteSection test exec onExitData onExitCharacterReferenceMarker onExitCharacterReferenceMarkerNumeric onExitCharacterReferenceMarkerHexadecimal onExitCharacterReferenceValue onExitLineEnding onExitBlankLineEnding onEnterEmphasis onExitEmphasis onEnterStrong onExitStrong onExitBreak onEnterRawText onExitRawText onEnterHtmlText onEnterHtmlFlow onExitHtml onExitHtmlData generateAutolink onExitAutolinkEmail onExitAutolinkProtocol onEnterParagraph onExitParagraph onEnterBlockQuote onExitBlockQuote onExitThematicBreak onExitHeadingAtxSequence onExitHeadingAtxText onExitHeadingAtx onExitHeadingSetextText setextRank onExitHeadingSetextUnderlineSequence onEnterCodeIndented onEnterRawFlow onExitRawFlowFence onExitRawFlowFenceInfo onExitRawFlowChunk onExitRawFlow onEnterList onExitList onEnterListItemMarker onExitListItemValue onExitListItem onEnterGfmTable onExitGfmTable onEnterGfmTableHead onExitGfmTableHead onEnterGfmTableBody onExitGfmTableBody onEnterGfmTableCell onExitGfmTableCell onEnterGfmTableRow onExitGfmTableRow onEnterBuffer onExitDrop onEnterLink onEnterImage onExitLabel onExitLabelText onExitReferenceString onEnterResource onEnterResourceDestinationString onExitResourceDestinationString onExitResourceTitleString onExitMedia onEnterDefinition onExitDefinitionLabelString onEnterDefinitionDestinationString onExitDefinitionDestinationString onExitDefinitionTitleString onExitDefinition onEnterGfmFootnoteCall onExitGfmFootnoteCall onEnterGfmFootnoteDefinition onExitGfmFootnoteDefinitionLabelString onExitGfmFootnoteDefinitionPrefix onExitGfmFootnoteDefinition rows commandOf handle captured held kept over endingOf passFrom areBegun turnsOf finish runFrom runWith runOf machineOf
 running = 0

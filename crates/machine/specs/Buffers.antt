@@ -31,8 +31,11 @@ abbrev pub write : String → State → State
 write text s = push (bytes text) s
 
 -- encoded where the flag says so
+abbrev pub encoded : List ℕ → State → List ℕ
+encoded b s = encodeOf (s .flags .encode) b
+
 unfoldable pub pushEncoded : List ℕ → State → State
-pushEncoded b s = push (encodeOf (s .flags .encode) b) s
+pushEncoded b s = push (encoded b s) s
 
 -- ---- captures
 
@@ -67,9 +70,15 @@ abbrev pub newestOf : List ℕ → List (List ℕ) → List ℕ
 newestOf page [] = page
 newestOf page (c ∷ cs) = c
 
+abbrev pub endingText : State → List ℕ
+endingText s = endingBytes (s .fixed .ending)
+
 unfoldable pub endLine : State → State
-endLine s = push (endingBytes (s .ending)) s
+endLine s = push (endingText s) s
 
 -- a line ending, unless the buffer is empty or ends in one
+unfoldable pub endingIfNeeded : State → List ℕ
+endingIfNeeded s = if isEol (lastOr 10 (newestOf (s .page) (s .captures))) then [] else endingText s
+
 unfoldable pub endLineIfNeeded : State → State
-endLineIfNeeded s = if isEol (lastOr 10 (newestOf (s .page) (s .captures))) then s else endLine s
+endLineIfNeeded s = push (endingIfNeeded s) s

@@ -9,6 +9,7 @@ pub mod Footnote
 pub mod Section
 pub mod Test
 pub mod Command
+pub mod Words
 pub mod OnText
 pub mod OnFlow
 pub mod OnList

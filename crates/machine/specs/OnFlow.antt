@@ -3,7 +3,8 @@ use mathlib.Core.Bool.{true, false}
 use mathlib.Core.Option.{none, some}
 use Rattle.machine.specs.Set.{slurp}
 use Rattle.machine.specs.Test.{isTight, isInContainer, hasRank, hasSeenData, isFirstFence, isFencedOnce, isFenceMissing, isUnderlinedByDashes, isBehindFence}
-use Rattle.machine.specs.Command.{Command, _▸_, whether, when, unless, put, chunk, rank, lineEnding, lineEndingIfNeeded, resume, hold, release, set, tighten, loosen, keepRank, forgetRank, seenData, fences, countFence}
+use Rattle.machine.specs.Command.{Command, _▸_, whether}
+use Rattle.machine.specs.Words.{when, unless, put, chunk, rank, lineEnding, lineEndingIfNeeded, resume, hold, release, set, tighten, loosen, keepRank, forgetRank, seenData, fences, countFence}
 
 -- ---- paragraphs, quotes, thematic breaks
 

@@ -1,6 +1,7 @@
 -- Handlers of footnotes. Assumes nothing.
 use mathlib.Core.Bool.{false}
-use Rattle.machine.specs.Command.{Command, _▸_, buffer, drop, tighten, loosen, openMedia, footnoteLabel, keepFootnote, call}
+use Rattle.machine.specs.Command.{Command, _▸_}
+use Rattle.machine.specs.Words.{buffer, drop, tighten, loosen, openMedia, footnoteLabel, keepFootnote, call}
 
 unfoldable pub onEnterGfmFootnoteCall : Command
 onEnterGfmFootnoteCall = openMedia false

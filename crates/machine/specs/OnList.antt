@@ -2,7 +2,8 @@
 use mathlib.Core.Bool.{true, false}
 use Rattle.machine.specs.Set.{slurp}
 use Rattle.machine.specs.Test.{isOrdered, isLoose, isFirstMarker, isTightParagraph, isEmptyItem}
-use Rattle.machine.specs.Command.{Command, _▸_, whether, when, unless, put, start, lineEnding, lineEndingIfNeeded, set, tighten, loosen, first}
+use Rattle.machine.specs.Command.{Command, _▸_, whether}
+use Rattle.machine.specs.Words.{when, unless, put, start, lineEnding, lineEndingIfNeeded, set, tighten, loosen, first}
 
 -- no > yet: the first item's value comes first
 unfoldable pub onEnterList : Command

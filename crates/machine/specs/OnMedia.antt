@@ -3,7 +3,8 @@ use mathlib.Core.Bool.{true, false}
 use Rattle.machine.specs.Set.{encode, alt}
 use Rattle.machine.specs.Media.{label, destination, title, labelId, referenceId}
 use Rattle.machine.specs.Test.{is, isImage}
-use Rattle.machine.specs.Command.{Command, _▸_, whether, when, unless, tag, put, buffer, drop, set, openMedia, closeMedia, store, emptyDestination, identify, leaveImage, seekDefinition, show, keepDefinition}
+use Rattle.machine.specs.Command.{Command, _▸_, whether}
+use Rattle.machine.specs.Words.{when, unless, tag, put, buffer, drop, set, openMedia, closeMedia, store, emptyDestination, identify, leaveImage, seekDefinition, show, keepDefinition}
 
 -- ---- captures
 

@@ -2,7 +2,8 @@
 use mathlib.Core.Bool.{true, false}
 use Rattle.machine.specs.Set.{head}
 use Rattle.machine.specs.Test.{is, isPastColumns}
-use Rattle.machine.specs.Command.{Command, _▸_, whether, put, alignment, lineEndingIfNeeded, buffer, drop, set, columns, noColumns, nextColumn, firstColumn, missingCells}
+use Rattle.machine.specs.Command.{Command, _▸_, whether, missingCells}
+use Rattle.machine.specs.Words.{put, alignment, lineEndingIfNeeded, buffer, drop, set, columns, noColumns, nextColumn, firstColumn}
 
 unfoldable pub onEnterGfmTable : Command
 onEnterGfmTable = columns ▸ lineEndingIfNeeded ▸ put "<table>"

@@ -4,7 +4,8 @@ use Prim.Native.String.{String}
 use Rattle.character_reference.specs.declared.Marker.the-variants.{Named, Decimal, Hexadecimal}
 use Rattle.machine.specs.Set.{slurp, encode, raw, alt}
 use Rattle.machine.specs.Test.{is, isLast, isHtmlAllowed, isBehindDefinition}
-use Rattle.machine.specs.Command.{Command, _▸_, whether, when, unless, tag, put, slice, reference, url, lineEndingIfNeeded, buffer, resumeCode, set, marker}
+use Rattle.machine.specs.Command.{Command, _▸_, whether}
+use Rattle.machine.specs.Words.{when, unless, tag, put, slice, reference, url, lineEndingIfNeeded, buffer, resumeCode, set, marker}
 
 unfoldable pub onExitData : Command
 onExitData = slice

@@ -9,6 +9,7 @@ use Rattle.event.specs.declared.Event.{Event}
 use Rattle.event.specs.Event.{isEnter, named}
 use Rattle.machine.specs.declared.Ending.{Ending}
 use Rattle.machine.specs.declared.Ending.the-variants.{Lf, Cr, CrLf}
+use Rattle.machine.specs.declared.Fixed.{Fixed}
 use Rattle.machine.specs.declared.Options.{Options}
 use Rattle.machine.specs.Outcome.{Outcome, stop, go, _>>=_}
 use Rattle.machine.specs.State.{State, start}
@@ -35,6 +36,10 @@ endingOf default text (e ∷ es) =
       | false ↦ endingOf default text es
     ]
 
+-- what the caller chose and the ending that was found, for the whole build
+abbrev pub fixedOf : Options → Ending → Fixed
+fixedOf o ending = record { ending = ending }
+
 -- ---- the running order: definitions run in a first pass and are jumped over in the second
 
 -- the turns of the pass over definitions, or of the other, from the event at a place on; inside a definition are its enter and exit too
@@ -45,6 +50,11 @@ passFrom definitions text o inside place before (e ∷ es) =
     let turn : Turn = record { text = text; options = o; event = e; place = place; before = before; last = isEmpty es } in
     let rest = passFrom definitions text o (here && not (isExit e && named (53 ∷ []) e)) (suc place) (e ∷ before) es in
     if (if definitions then here else not here) then turn ∷ rest else rest
+
+-- definitions begin before they end: the Rust takes the newest one at an exit, and would panic where there is none
+unfoldable pub areBegun : List Event → Bool
+areBegun [] = true
+areBegun (e ∷ es) = if named (53 ∷ []) e then isEnter e else areBegun es
 
 unfoldable pub turnsOf : (text : List ℕ) → Options → List Event → List Turn
 turnsOf text o es = passFrom true text o false 0 [] es ++ passFrom false text o false 0 [] es
@@ -79,7 +89,7 @@ unfoldable pub runWith : (limit : State → Option ℕ) → (text : List ℕ) �
 runWith limit text o es =
     elim (endingOf (o .ending) text es) [
       | stop ↦ stopped 0
-      | go ending ↦ runFrom (length es) limit (turnsOf text o es) (start ending)
+      | go ending ↦ elim (areBegun es) [ true ↦ runFrom (length es) limit (turnsOf text o es) (start (fixedOf o ending)) | false ↦ stopped 0 ]
     ]
 
 -- with the limits: the answer on a list that the checker passes

@@ -10,31 +10,31 @@ use Rattle.machine.specs.State.{State, Span, Destination, Media, Definit
 -- ---- of the state
 
 abbrev pub setPage : List ℕ → State → State
-setPage x s = record { page = x; captures = s .captures; media = s .media; tight = s .tight; labels = s .labels; flags = s .flags; waiting = s .waiting; table = s .table; kept = s .kept; ending = s .ending }
+setPage x s = record { page = x; captures = s .captures; media = s .media; tight = s .tight; labels = s .labels; flags = s .flags; waiting = s .waiting; table = s .table; kept = s .kept; fixed = s .fixed }
 
 abbrev pub setCaptures : List (List ℕ) → State → State
-setCaptures x s = record { page = s .page; captures = x; media = s .media; tight = s .tight; labels = s .labels; flags = s .flags; waiting = s .waiting; table = s .table; kept = s .kept; ending = s .ending }
+setCaptures x s = record { page = s .page; captures = x; media = s .media; tight = s .tight; labels = s .labels; flags = s .flags; waiting = s .waiting; table = s .table; kept = s .kept; fixed = s .fixed }
 
 abbrev pub setMedia : List Media → State → State
-setMedia x s = record { page = s .page; captures = s .captures; media = x; tight = s .tight; labels = s .labels; flags = s .flags; waiting = s .waiting; table = s .table; kept = s .kept; ending = s .ending }
+setMedia x s = record { page = s .page; captures = s .captures; media = x; tight = s .tight; labels = s .labels; flags = s .flags; waiting = s .waiting; table = s .table; kept = s .kept; fixed = s .fixed }
 
 abbrev pub setTight : List Bool → State → State
-setTight x s = record { page = s .page; captures = s .captures; media = s .media; tight = x; labels = s .labels; flags = s .flags; waiting = s .waiting; table = s .table; kept = s .kept; ending = s .ending }
+setTight x s = record { page = s .page; captures = s .captures; media = s .media; tight = x; labels = s .labels; flags = s .flags; waiting = s .waiting; table = s .table; kept = s .kept; fixed = s .fixed }
 
 abbrev pub setLabels : List Span → State → State
-setLabels x s = record { page = s .page; captures = s .captures; media = s .media; tight = s .tight; labels = x; flags = s .flags; waiting = s .waiting; table = s .table; kept = s .kept; ending = s .ending }
+setLabels x s = record { page = s .page; captures = s .captures; media = s .media; tight = s .tight; labels = x; flags = s .flags; waiting = s .waiting; table = s .table; kept = s .kept; fixed = s .fixed }
 
 abbrev pub setFlags : Flags → State → State
-setFlags x s = record { page = s .page; captures = s .captures; media = s .media; tight = s .tight; labels = s .labels; flags = x; waiting = s .waiting; table = s .table; kept = s .kept; ending = s .ending }
+setFlags x s = record { page = s .page; captures = s .captures; media = s .media; tight = s .tight; labels = s .labels; flags = x; waiting = s .waiting; table = s .table; kept = s .kept; fixed = s .fixed }
 
 abbrev pub setWaiting : Waiting → State → State
-setWaiting x s = record { page = s .page; captures = s .captures; media = s .media; tight = s .tight; labels = s .labels; flags = s .flags; waiting = x; table = s .table; kept = s .kept; ending = s .ending }
+setWaiting x s = record { page = s .page; captures = s .captures; media = s .media; tight = s .tight; labels = s .labels; flags = s .flags; waiting = x; table = s .table; kept = s .kept; fixed = s .fixed }
 
 abbrev pub setTable : Table → State → State
-setTable x s = record { page = s .page; captures = s .captures; media = s .media; tight = s .tight; labels = s .labels; flags = s .flags; waiting = s .waiting; table = x; kept = s .kept; ending = s .ending }
+setTable x s = record { page = s .page; captures = s .captures; media = s .media; tight = s .tight; labels = s .labels; flags = s .flags; waiting = s .waiting; table = x; kept = s .kept; fixed = s .fixed }
 
 abbrev pub setKept : Kept → State → State
-setKept x s = record { page = s .page; captures = s .captures; media = s .media; tight = s .tight; labels = s .labels; flags = s .flags; waiting = s .waiting; table = s .table; kept = x; ending = s .ending }
+setKept x s = record { page = s .page; captures = s .captures; media = s .media; tight = s .tight; labels = s .labels; flags = s .flags; waiting = s .waiting; table = s .table; kept = x; fixed = s .fixed }
 
 -- ---- flags
 

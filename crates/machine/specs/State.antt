@@ -5,7 +5,7 @@ use mathlib.Core.Option.{Option, none}
 use Prim.Native.Nat.{ℕ}
 use Rattle.character_reference.specs.declared.Marker.{Marker}
 use Rattle.machine.specs.declared.Flags.{Flags}
-use Rattle.machine.specs.declared.Ending.{Ending}
+use Rattle.machine.specs.declared.Fixed.{Fixed}
 
 -- a slice of the text
 pub record Span : Type 0 where
@@ -70,10 +70,10 @@ pub record State : Type 0 where
   pub waiting : Waiting
   pub table : Table
   pub kept : Kept
-  pub ending : Ending  -- which never changes
+  pub fixed : Fixed  -- which never changes
 
-unfoldable pub start : Ending → State
-start ending =
+unfoldable pub start : Fixed → State
+start fixed =
     record {
       page = [];
       captures = [];
@@ -84,5 +84,5 @@ start ending =
       waiting = record { rank = none; setext = none; seen = none; fences = none; marker = none; first = none };
       table = record { aligns = none; column = 0 };
       kept = record { definitions = []; footnotes = []; calls = [] };
-      ending = ending;
+      fixed = fixed;
     }

@@ -28,3 +28,8 @@ pub struct Options {
     pub allow_any_img_src: bool,
     pub ending: Ending,
 }
+
+// What does not change during a build: it is in the state, since the footnote section has no turn.
+pub struct Fixed {
+    pub ending: Ending,
+}

@@ -18,9 +18,9 @@ use Rattle.machine.specs.Outcome.{go, _>>=_, need}
 use Rattle.machine.specs.Buffers.{push}
 use Rattle.machine.specs.Turn.{Turn, urlOf}
 use Rattle.machine.specs.Media.{destination, partText, destinationText, orNone}
-use Rattle.machine.specs.Command.{show}
+use Rattle.machine.specs.Words.{show}
+use Rattle.machine.proofs.Outcomes.{never}
 use Rattle.regions.specs.Regions.{regionAt}
-use Rattle.context.proofs.Plain.{never}
 use Rattle.links.specs.declared.Piece.{Piece}
 use Rattle.links.specs.declared.Destination.{Destination}
 use Rattle.links.specs.declared.Destination.the-variants as D

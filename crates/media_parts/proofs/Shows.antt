@@ -1,6 +1,5 @@
 -- A label, as the machine and the code show them. Assumes nothing.
 use mathlib.Core.Path.{_≡_}
-use mathlib.Core.Bool.{true}
 use mathlib.Core.List.{List, _∷_}
 use mathlib.Core.Option.{Option, none, some}
 use Prim.Native.Nat.{ℕ}
@@ -8,22 +7,22 @@ use native.Mathlib.Omega.{arith}
 use lib.ListN.{length}
 use Rattle.machine.specs.State as State
 use Rattle.machine.specs.State.{State}
-use Rattle.machine.specs.Outcome.{go, _>>=_, need}
+use Rattle.machine.specs.Outcome.{go, need}
 use Rattle.machine.specs.Buffers.{push}
 use Rattle.machine.specs.Turn.{Turn}
-use Rattle.machine.specs.Media.{Part, label, partText, newestMedia}
-use Rattle.machine.specs.Command.{show, exec}
+use Rattle.machine.specs.Media.{Part, label, partText}
+use Rattle.machine.specs.Command as C
+use Rattle.machine.specs.Words.{show}
+use Rattle.machine.proofs.Outcomes.{never}
 use Rattle.bounded.specs.Within.{within}
-use Rattle.bounded.proofs.Bounds.{done}
+use Rattle.bounded.proofs.Bounds.{wrote}
 use Rattle.regions.specs.Regions.{regionAt}
-use Rattle.context.proofs.Plain.{never}
-use Rattle.context.proofs.Commands.{first-goes}
 use Rattle.links.specs.declared.Piece.{Piece}
 use Rattle.links.specs.declared.Text.the-variants as T
 use Rattle.links.specs.Links.{PieceIs, TextIs}
 use Rattle.whole.specs.declared.Whole.{Whole}
 use Rattle.whole.specs.Whole.{Held, OnPage}
-use Rattle.whole.proofs.Media.{cc-go, newest-there}
+use Rattle.whole.proofs.Media.{newest-there}
 use Rattle.show.specs.Show.{asIs}
 use Rattle.on_definition.proofs.Seeks.{newest-is}
 use Rattle.media_parts.specs.Private.{WritesPiece}
@@ -37,13 +36,10 @@ pub record ShownIs (part : Part) (t : Turn) (s u : State) : Type 0 where
   pub then-is : push bytes s ≡ u
 
 pub shown-there : (part : Part) (t : Turn) (s u : State) → within (show part) t s ≡ go u → ShownIs part t s u
-unfolding within exec
-shown-there part t s u p =
-    let ds = s .kept .definitions in
-    let g = done true (newestMedia s >>= λ (m, ms). partText part (t .options) ds m >>= λ c. go (push c s)) u p .went in
-    let f = newest-there s u (λ (m, ms). partText part (t .options) ds m >>= λ c. go (push c s)) g in
-    let h = first-goes (partText part (t .options) ds (f .0)) (λ c. go (push c s)) u (f .3) in
-    record { newest = f .0; others = f .1; bytes = h .0; media-is = f .2; bytes-are = h .1; then-is = cc-go (h .2) }
+shown-there p t s u q =
+    let h = wrote (C.part p) t s u q in
+    let f = newest-there s (h .0) (λ (m, ms). partText p (t .options) (s .kept .definitions) m) (h .1) in
+    record { newest = f .0; others = f .1; bytes = h .0; media-is = f .2; bytes-are = f .3; then-is = h .2 }
 
 -- ---- the label
 

@@ -11,10 +11,10 @@ use Rattle.machine.specs.Outcome.{go, _>>=_, need}
 use Rattle.machine.specs.Buffers.{push}
 use Rattle.machine.specs.Turn.{Turn}
 use Rattle.machine.specs.Media.{title, partText, titleOf, titleText, orNone}
-use Rattle.machine.specs.Command.{show}
+use Rattle.machine.specs.Words.{show}
 use Rattle.regions.specs.Regions.{regionAt}
-use Rattle.context.proofs.Commands.{first-goes}
 use Rattle.machine.specs.declared.Options.{Options}
+use Rattle.machine.proofs.Outcomes.{first-goes}
 use Rattle.links.specs.declared.Piece.{Piece}
 use Rattle.links.specs.declared.Destination.{Destination}
 use Rattle.links.specs.declared.Destination.the-variants as D

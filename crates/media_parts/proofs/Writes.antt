@@ -14,7 +14,8 @@ use Rattle.machine.specs.Set.{setCaptures}
 use Rattle.machine.specs.Buffers.{push}
 use Rattle.machine.specs.Turn.{Turn}
 use Rattle.machine.specs.Media.{titleText}
-use Rattle.machine.specs.Command.{put, exec}
+use Rattle.machine.specs.Command.{exec}
+use Rattle.machine.specs.Words.{put}
 use Rattle.bounded.specs.Within.{within}
 use Rattle.bounded.proofs.Bounds.{done}
 use Rattle.regions.specs.Regions.{regionAt}

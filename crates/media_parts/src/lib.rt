@@ -2,7 +2,7 @@
 ghost use Prim.Native.Nat.{_≤_};
 ghost use Rattle.machine.specs.Turn.{urlOf};
 ghost use Rattle.machine.specs.Media.{label, destination, title, titleText};
-ghost use Rattle.machine.specs.Command.{show};
+ghost use Rattle.machine.specs.Words.{show};
 ghost use Rattle.context.specs.Rel.{Any};
 ghost use Rattle.whole.specs.Whole.{Held, OnPage};
 ghost use Rattle.show.specs.Show.{asIs};

@@ -17,20 +17,10 @@ use Rattle.machine.specs.Turn.{sliceOf, asStr, strOf}
 use Rattle.machine.specs.Media.{splitMedia, newestMedia, onNewest, definitionLabels}
 use Rattle.machine.specs.Footnote.{splitLabels}
 use Rattle.machine.specs.Section.{footnoteLabels}
+use Rattle.machine.proofs.Outcomes.{never}
 use Rattle.never.specs.Values.{Values, values, textOf}
 
 -- ---- what an outcome that goes on came from
-
-pub stops : {X A : Type 0} {u : A} → _≡_ {A = Outcome A} stop (go u) → X
-stops p = let z : _≡_ {A = ℕ} 0 1 = cc in absurd (omega arith)
-
-pub came : {A B : Type 0} (o : Outcome A) (f : A → Outcome B) {u : B} → (o >>= f) ≡ go u → (a : A) × (o ≡ go a) × (f a ≡ go u)
-came stop f p = stops p
-came (go a) f p = (a, refl, p)
-
-pub needed : {A B : Type 0} (o : Option A) (f : A → Outcome B) {u : B} → (need o >>= f) ≡ go u → (a : A) × (o ≡ some a) × (f a ≡ go u)
-needed none f p = stops p
-needed (some a) f p = (a, refl, p)
 
 -- a slice that is read is that of the text
 pub read : (text : List ℕ) (p : Span) (b : List ℕ) → strOf text p ≡ go b → b ≡ textOf text p
@@ -39,11 +29,11 @@ read text p b h = at (leb (p .from) (p .to) && leb (p .to) (length text)) h
   where
     utf : (y : Bool) (c : List ℕ) → _≡_ {A = Outcome (List ℕ)} (if y then go c else stop) (go b) → b ≡ c
     utf true c q = cc
-    utf false c q = stops q
+    utf false c q = never q
 
     at : (x : Bool) → ((if x then go (take (p .to - p .from) (drop (p .from) text)) else stop) >>= λ b. if isUtf8 b then go b else stop) ≡ go b → b ≡ textOf text p
     at true q = utf (isUtf8 (take (p .to - p .from) (drop (p .from) text))) (take (p .to - p .from) (drop (p .from) text)) q
-    at false q = stops q
+    at false q = never q
 
 -- ---- states with the same values
 
@@ -63,7 +53,7 @@ unfolding takeCapture
 took s r h = at (s .captures) h
   where
     at : (cs : List (List ℕ)) → takeFrom cs s ≡ go r → (cs : List (List ℕ)) × (r .1 ≡ setCaptures cs s)
-    at [] q = stops q
+    at [] q = never q
     at (c ∷ cs) q = let e : _≡_ {A = List ℕ × State} (c, setCaptures cs s) r = cc in (cs, ap (λ (x : List ℕ × State). x .1) (sym e))
 
 pub took-values : (s : State) (r : List ℕ × State) → takeCapture s ≡ go r → values (r .1) ≡ values s
@@ -74,7 +64,7 @@ unfolding newestMedia
 newest s r h = at (s .media) h
   where
     at : (ms : List Media) → splitMedia ms ≡ go r → ms ≡ r .0 ∷ r .1
-    at [] q = stops q
+    at [] q = never q
     at (m ∷ ms) q = let e : _≡_ {A = Media × List Media} (m, ms) r = cc in rw (sym e) refl
 
 -- the newest medium is another
@@ -83,7 +73,7 @@ unfolding onNewest newestMedia
 on-newest f s u v h k = at (s .media) refl h
   where
     at : (ms : List Media) → s .media ≡ ms → (splitMedia ms >>= λ (m, ms). go (setMedia (f m ∷ ms) s)) ≡ go u → values u ≡ v
-    at [] e q = stops q
+    at [] e q = never q
     at (m ∷ ms) e q = same-go (setMedia (f m ∷ ms) s) u v q (k m ms e)
 
 -- ---- labels that are kept
@@ -100,11 +90,11 @@ notes-add (x ∷ fs) f = ap (λ (l : List (List ℕ)). x .label ∷ l) (notes-ad
 
 module _ {X A B : Type 0} {u : B} where
   pub via : (o : Outcome A) (f : A → Outcome B) → (o >>= f) ≡ go u → ((a : A) → o ≡ go a → f a ≡ go u → X) → X
-  via stop f p k = stops p
+  via stop f p k = never p
   via (go a) f p k = k a refl p
 
   pub via-need : (o : Option A) (f : A → Outcome B) → (need o >>= f) ≡ go u → ((a : A) → o ≡ some a → f a ≡ go u → X) → X
-  via-need none f p k = stops p
+  via-need none f p k = never p
   via-need (some a) f p k = k a refl p
 
 module _ {X : Type 0} (s u : State) where
@@ -113,7 +103,7 @@ module _ {X : Type 0} (s u : State) where
   via-newest f p k = at (s .media) refl p
     where
       at : (ms : List Media) → s .media ≡ ms → (splitMedia ms >>= f) ≡ go u → X
-      at [] e q = stops q
+      at [] e q = never q
       at (m ∷ ms) e q = k m ms e q
 
   pub via-take : (f : List ℕ × State → Outcome State) → (takeCapture s >>= f) ≡ go u → ((c : List ℕ) (cs : List (List ℕ)) → f (c, setCaptures cs s) ≡ go u → X) → X
@@ -121,12 +111,12 @@ module _ {X : Type 0} (s u : State) where
   via-take f p k = at (s .captures) p
     where
       at : (cs : List (List ℕ)) → (takeFrom cs s >>= f) ≡ go u → X
-      at [] q = stops q
+      at [] q = never q
       at (c ∷ cs) q = k c cs q
 
   pub via-label : (f : Span × List Span → Outcome State) → (splitLabels (s .labels) >>= f) ≡ go u → ((p : Span) (ps : List Span) → s .labels ≡ p ∷ ps → f (p, ps) ≡ go u → X) → X
   via-label f p k = at (s .labels) refl p
     where
       at : (ls : List Span) → s .labels ≡ ls → (splitLabels ls >>= f) ≡ go u → X
-      at [] e q = stops q
+      at [] e q = never q
       at (l ∷ ls) e q = k l ls e q

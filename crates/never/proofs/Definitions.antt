@@ -20,7 +20,7 @@ use Rattle.machine.specs.State.{State, Media}
 use Rattle.machine.specs.Set.{setCaptures}
 use Rattle.machine.specs.Turn.{Turn}
 use Rattle.machine.specs.Media.{define}
-use Rattle.machine.specs.Command as C
+use Rattle.machine.specs.Words as C
 use Rattle.machine.specs.Command.{exec}
 use Rattle.machine.specs.Handlers.{rows}
 use Rattle.machine.specs.OnMedia.{onExitDefinition}

@@ -25,5 +25,6 @@ pub mod Pursued
 pub mod Second
 pub mod Definitions
 pub mod Beginning
+pub mod Begun
 pub mod Whole
 pub mod Never

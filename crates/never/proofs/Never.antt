@@ -19,13 +19,13 @@ use Rattle.machine.specs.Turn.{Turn}
 use Rattle.machine.specs.Handlers.{commandOf, handle}
 use Rattle.machine.specs.Test.{isEmpty}
 use Rattle.machine.specs.Section.{footnoteSection}
-use Rattle.machine.specs.Run.{endingOf, turnsOf, page, pageOf, sectionEnd, finish, runFrom, runWith, machineOf}
+use Rattle.machine.specs.Run.{endingOf, fixedOf, turnsOf, page, pageOf, sectionEnd, finish, runFrom, runWith, machineOf}
 use Rattle.bounded.specs.Within.{Goes, ends, turns}
 use Rattle.clean.proofs.Within.{within-exec}
 use Rattle.clean.specs.Clean.{Clean}
 use Rattle.clean.specs.Section.{Called}
 use Rattle.clean.proofs.Section.{section-goes}
-use Rattle.never.proofs.Whole.{ending-goes, turns-go}
+use Rattle.never.proofs.Whole.{ending-goes, begins, turns-go}
 
 -- ---- the run without limits
 
@@ -52,10 +52,10 @@ module _ (text events : List ℕ) (o : Options) (yes : checkOf text events ≡ Y
   rules-met = yes-meets text events .0 yes
 
   -- the line ending is found, and within the code's tables the machine takes every turn
-  pub goes : (ending : Ending) × (endingOf (o .ending) text (eventsOf events) ≡ go ending) × (v : State) × Goes (turnsOf text o (eventsOf events)) (start ending) v × (v .captures ≡ [])
+  pub goes : (ending : Ending) × (endingOf (o .ending) text (eventsOf events) ≡ go ending) × (v : State) × Goes (turnsOf text o (eventsOf events)) (start (fixedOf o ending)) v × (v .captures ≡ [])
   goes =
       let e = ending-goes text events rules-met (o .ending) 0 [] (eventsOf events) (record { long = refl; same = refl }) in
-      let q = turns-go text events rules-met o (e .0) in
+      let q = turns-go text events rules-met o (fixedOf o (e .0)) in
       (e .0, e .1, q .0, q .1, q .2)
 
   -- and it ends in a page
@@ -63,7 +63,7 @@ module _ (text events : List ℕ) (o : Options) (yes : checkOf text events ≡ Y
   unfolding machineOf runWith
   never =
       let e = ending-goes text events rules-met (o .ending) 0 [] (eventsOf events) (record { long = refl; same = refl }) in
-      let q = turns-go text events rules-met o (e .0) in
+      let q = turns-go text events rules-met o (fixedOf o (e .0)) in
       let f = finish-goes (length (eventsOf events)) (q .0) (q .3) (q .4) in
-      let a : runWith no-limit text o (eventsOf events) ≡ page (f .0) = rw (runWith, e .1) (run-goes (length (eventsOf events)) (q .1) ∙ f .1) in
+      let a : runWith no-limit text o (eventsOf events) ≡ page (f .0) = rw (runWith, e .1, begins text events rules-met o) (run-goes (length (eventsOf events)) (q .1) ∙ f .1) in
       (f .0, ap pageOf a)

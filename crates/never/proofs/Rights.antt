@@ -20,8 +20,9 @@ use Rattle.machine.specs.OnTable.{onEnterGfmTable, onExitGfmTable, onEnterGfmTa
 use Rattle.machine.specs.OnMedia.{onEnterBuffer, onExitDrop, onEnterLink, onEnterImage, onExitLabel, onExitLabelText, onExitReferenceString, onEnterResource, onEnterResourceDestinationString, onExitResourceDestinationString, onExitResourceTitleString, onExitMedia, onEnterDefinition, onExitDefinitionLabelString, onEnterDefinitionDestinationString, onExitDefinitionDestinationString, onExitDefinitionTitleString, onExitDefinition}
 use Rattle.machine.specs.OnFootnote.{onEnterGfmFootnoteCall, onExitGfmFootnoteCall, onEnterGfmFootnoteDefinition, onExitGfmFootnoteDefinitionLabelString, onExitGfmFootnoteDefinitionPrefix, onExitGfmFootnoteDefinition}
 use Rattle.machine.specs.Test.{is, isImage}
-use Rattle.machine.specs.Command as C
-use Rattle.machine.specs.Command.{Command, _▸_, whether, put, reference, drop, resumeCode, closeMedia, leaveImage, seekDefinition, show, when, unless, tag, exec}
+use Rattle.machine.specs.Words as C
+use Rattle.machine.specs.Command.{Command, _▸_, whether, exec}
+use Rattle.machine.specs.Words.{put, reference, drop, resumeCode, closeMedia, leaveImage, seekDefinition, show, when, unless, tag}
 use Rattle.bounded.specs.Within.{within}
 use Rattle.clean.proofs.Within.{within-exec}
 use Rattle.shape.specs.Kinds.{rowOf, below}

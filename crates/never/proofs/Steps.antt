@@ -5,7 +5,6 @@ use mathlib.Core.List.{List, [], _∷_, _++_}
 use mathlib.Core.Option.{Option, none, some}
 use Prim.Native.Nat.{ℕ, zero, suc}
 use lib.Dec.{T}
-use lib.ListN.{getElem?}
 use Rattle.lent.specs.Bytes.{if_then_else_}
 use Rattle.event.specs.declared.Event.{Event}
 use Rattle.character_reference.specs.Reference.{referenceOf}
@@ -15,16 +14,17 @@ use Rattle.normalize_identifier.specs.Search.{firstSame}
 use Rattle.machine.specs.Outcome.{Outcome, go, _>>=_, need}
 use Rattle.machine.specs.State.{State, Span, Destination, noDestination, own, defined, Media}
 use Rattle.machine.specs.Set.{setCaptures, setMedia, setDestination, setMarker, setLabels, setFlag, alt, addDefinition, addFootnote, setCalls}
-use Rattle.machine.specs.Buffers.{_▹_, push, pushEncoded, isEol, lastOr, newestOf, openCapture, takeCapture, endingBytes, endLine, endLineIfNeeded}
+use Rattle.machine.specs.Buffers.{_▹_, push, pushEncoded, openCapture, takeCapture}
 use Rattle.machine.specs.Turn.{Turn, strOf, ownStr}
-use Rattle.machine.specs.Text.{alignText}
 use Rattle.machine.specs.Media as M
-use Rattle.machine.specs.Media.{newestMedia, onNewest, withPart, anyImage, leaveAlt, definitionLabels, labelOf, definedAt, destinationOf, seek, partText, ownOf, define}
+use Rattle.machine.specs.Media.{newestMedia, onNewest, withPart, anyImage, leaveAlt, definitionLabels, labelOf, definedAt, destinationOf, seek, ownOf, define}
 use Rattle.machine.specs.Footnote.{addressOf, splitLabels, keep, callIndex, countAt, timesAt, callText, callNote}
-use Rattle.machine.specs.Command.{reference, alignment, lineEnding, lineEndingIfNeeded, buffer, marker, store, leaveImage, seekDefinition, show, keepDefinition, keepFootnote, call, repeat, exec}
+use Rattle.machine.specs.Command.{repeat, exec}
+use Rattle.machine.specs.Words.{reference, buffer, store, leaveImage, seekDefinition, keepDefinition, keepFootnote, call}
+use Rattle.machine.proofs.Outcomes.{never, first-goes, need-goes}
 use Rattle.shape.specs.Facts.{isSet}
 use Rattle.never.specs.Values.{isLed, Values, values, Effect, doesTo, doTo, effectsOf, isNone}
-use Rattle.never.proofs.Came.{stops, came, needed, read, same-go, pushed, took-values, on-newest, labels-add, notes-add, via, via-need, via-newest, via-take, via-label}
+use Rattle.never.proofs.Came.{read, same-go, pushed, took-values, on-newest, labels-add, notes-add, via, via-need, via-newest, via-take, via-label}
 
 pub none-done : (text : List ℕ) (e : Event) (xs : List Effect) (v : Values) → T (isNone xs) → doTo text e xs v ≡ v
 none-done text e [] v t = refl
@@ -36,12 +36,12 @@ done-both text e (x ∷ xs) ys v = done-both text e xs ys (doesTo text e x v)
 
 pub repeated : (n : ℕ) (F : State → Outcome State) (s u : State) → ((s u : State) → F s ≡ go u → values u ≡ values s) → repeat n F s ≡ go u → values u ≡ values s
 repeated zero F s u k h = same-go s u (values s) h refl
-repeated (suc n) F s u k h = let r = came (F s) (λ w. repeat n F w) h in repeated n F (r .0) u k (r .2) ∙ k s (r .0) (r .1)
+repeated (suc n) F s u k h = let r = first-goes (F s) (λ w. repeat n F w) _ h in repeated n F (r .0) u k (r .2) ∙ k s (r .0) (r .1)
 
 module _ (t : Turn) (s u : State) where
   -- what is read and written
   pub wrote : (o : Outcome (List ℕ)) (f : List ℕ → List ℕ) → (o >>= λ b. go (push (f b) s)) ≡ go u → values u ≡ values s
-  wrote o f h = let r = came o (λ b. go (push (f b) s)) h in same-go (push (f (r .0)) s) u (values s) (r .2) (pushed (f (r .0)) s)
+  wrote o f h = let r = first-goes o (λ b. go (push (f b) s)) _ h in same-go (push (f (r .0)) s) u (values s) (r .2) (pushed (f (r .0)) s)
 
   pub encoded : (b : List ℕ) (w : State) (v : Values) → _≡_ {A = Outcome State} (go (pushEncoded b w)) (go u) → values w ≡ v → values u ≡ v
   unfolding pushEncoded
@@ -50,28 +50,13 @@ module _ (t : Turn) (s u : State) where
   pub reference-done : exec reference t s ≡ go u → values u ≡ doTo (t .text) (t .event) (effectsOf reference) (values s)
   unfolding exec effectsOf
   reference-done h =
-      let a = needed (s .waiting .marker) (λ m. ownStr t >>= λ b. need (referenceOf m b) >>= λ c. go (pushEncoded c (setMarker none s))) h in
-      let b = came (ownStr t) (λ b. need (referenceOf (a .0) b) >>= λ c. go (pushEncoded c (setMarker none s))) (a .2) in
-      let c = needed (referenceOf (a .0) (b .0)) (λ c. go (pushEncoded c (setMarker none s))) (b .2) in
+      let a = need-goes (s .waiting .marker) (λ m. ownStr t >>= λ b. need (referenceOf m b) >>= λ c. go (pushEncoded c (setMarker none s))) _ h in
+      let b = first-goes (ownStr t) (λ b. need (referenceOf (a .0) b) >>= λ c. go (pushEncoded c (setMarker none s))) _ (a .2) in
+      let c = need-goes (referenceOf (a .0) (b .0)) (λ c. go (pushEncoded c (setMarker none s))) _ (b .2) in
       encoded (c .0) (setMarker none s) (values (setMarker none s)) (c .2) refl
 
-  pub alignment-done : exec alignment t s ≡ go u → values u ≡ values s
-  unfolding exec
-  alignment-done h =
-      let a = needed (s .table .aligns) (λ aligns. need (getElem? aligns (s .table .column)) >>= λ a. go (push (alignText a) s)) h in
-      let b = needed (getElem? (a .0) (s .table .column)) (λ a. go (push (alignText a) s)) (a .2) in
-      same-go (push (alignText (b .0)) s) u (values s) (b .2) (pushed (alignText (b .0)) s)
-
-  pub line-if-done : exec lineEndingIfNeeded t s ≡ go u → values u ≡ values s
-  unfolding exec endLine endLineIfNeeded
-  line-if-done h = at (isEol (lastOr 10 (newestOf (s .page) (s .captures)))) h
-    where
-      at : (x : Bool) → _≡_ {A = Outcome State} (go (if x then s else push (endingBytes (s .ending)) s)) (go u) → values u ≡ values s
-      at true q = same-go s u (values s) q refl
-      at false q = same-go (push (endingBytes (s .ending)) s) u (values s) q (pushed (endingBytes (s .ending)) s)
-
   pub taken : (f : List ℕ × State → Outcome State) → (takeCapture s >>= f) ≡ go u → (v : Values) → ((r : List ℕ × State) → values (r .1) ≡ values s → f r ≡ go u → values u ≡ v) → values u ≡ v
-  taken f h v k = let r = came (takeCapture s) f h in k (r .0) (took-values s (r .0) (r .1)) (r .2)
+  taken f h v k = let r = first-goes (takeCapture s) f _ h in k (r .0) (took-values s (r .0) (r .1)) (r .2)
 
   pub stored : (part : M.Part) → exec (store part) t s ≡ go u → (v : Values) → ((b : List ℕ) (m : Media) (ms : List Media) → s .media ≡ m ∷ ms → values (setMedia (withPart part b m ∷ ms) s) ≡ v) → values u ≡ v
   unfolding exec
@@ -85,13 +70,13 @@ module _ (t : Turn) (s u : State) where
     where
       at : (f : Found) → definedAt f ≡ go r → isLed r ≡ true
       at (At k) q = let e : defined k ≡ r = cc in rw (sym e) refl
-      at Nothing q = stops q
+      at Nothing q = never q
   led-by (own b) sought r h = let e : own b ≡ r = cc in rw (sym e) refl
   led-by (defined k) sought r h = let e : defined k ≡ r = cc in rw (sym e) refl
 
   set-by : (p q : Option Span) (r : Option (List ℕ)) → labelOf t p q ≡ go r → isSet r ≡ (isSet p || isSet q)
-  set-by (some p) q r h = let a = came (strOf (t .text) p) (λ b. go (some b)) h in let e : some (a .0) ≡ r = cc in rw (sym e) refl
-  set-by none (some q) r h = let a = came (strOf (t .text) q) (λ b. go (some b)) h in let e : some (a .0) ≡ r = cc in rw (sym e) refl
+  set-by (some p) q r h = let a = first-goes (strOf (t .text) p) (λ b. go (some b)) _ h in let e : some (a .0) ≡ r = cc in rw (sym e) refl
+  set-by none (some q) r h = let a = first-goes (strOf (t .text) q) (λ b. go (some b)) _ h in let e : some (a .0) ≡ r = cc in rw (sym e) refl
   set-by none none r h = let e : none ≡ r = cc in rw (sym e) refl
 
   pub seek-done : exec seekDefinition t s ≡ go u → values u ≡ doTo (t .text) (t .event) (effectsOf seekDefinition) (values s)
@@ -103,23 +88,13 @@ module _ (t : Turn) (s u : State) where
       (λ d q c. on-newest (setDestination d) s u (doTo (t .text) (t .event) (effectsOf seekDefinition) (values s)) c
       (λ n ns e. let j : n ≡ m = cc in let w : ns ≡ ms = cc in rw (i, j, w, led-by (m .destination) sought d q, set-by (m .referenceId) (m .labelId) sought p) refl))))
 
-  pub line-done : exec lineEnding t s ≡ go u → values u ≡ values s
-  unfolding exec endLine
-  line-done h = same-go (push (endingBytes (s .ending)) s) u (values s) h (pushed (endingBytes (s .ending)) s)
-
   pub buffer-done : exec buffer t s ≡ go u → values u ≡ values s
   unfolding exec openCapture
   buffer-done h = same-go (setCaptures ([] ∷ s .captures) s) u (values s) h refl
 
   pub leave-done : exec leaveImage t s ≡ go u → values u ≡ values s
   unfolding exec leaveAlt
-  leave-done h = let r = came (newestMedia s) (λ (m, ms). go (setFlag alt (anyImage ms) s)) h in same-go (setFlag alt (anyImage (r .0 .1)) s) u (values s) (r .2) refl
-
-  pub shown : (part : M.Part) → exec (show part) t s ≡ go u → values u ≡ values s
-  unfolding exec
-  shown part h =
-      let a = came (newestMedia s) (λ (m, ms). partText part (t .options) (s .kept .definitions) m >>= λ b. go (push b s)) h in
-      wrote (partText part (t .options) (s .kept .definitions) (a .0 .0)) (λ b. b) (a .2)
+  leave-done h = let r = first-goes (newestMedia s) (λ (m, ms). go (setFlag alt (anyImage ms) s)) _ h in same-go (setFlag alt (anyImage (r .0 .1)) s) u (values s) (r .2) refl
 
   pub define-done : exec keepDefinition t s ≡ go u → values u ≡ doTo (t .text) (t .event) (effectsOf keepDefinition) (values s)
   unfolding exec define effectsOf

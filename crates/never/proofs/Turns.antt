@@ -14,7 +14,7 @@ use Rattle.machine.specs.declared.Options.{Options}
 use Rattle.machine.specs.State.{State}
 use Rattle.machine.specs.Turn.{Turn}
 use Rattle.machine.specs.Text.{codeOf}
-use Rattle.machine.specs.Command.{reference, resumeCode}
+use Rattle.machine.specs.Words.{reference, resumeCode}
 use Rattle.machine.specs.Handlers.{commandOf}
 use Rattle.clean.specs.Clean.{Clean, Valid, All, empty, more}
 use Rattle.clean.proofs.CodeText.{code-valid}

@@ -19,13 +19,14 @@ use Rattle.rules.specs.Rules.{Meets, Exits, enters}
 use Rattle.rules.proofs.Before.{clash}
 use Rattle.machine.specs.declared.Options.{Options}
 use Rattle.machine.specs.declared.Ending.{Ending}
+use Rattle.machine.specs.declared.Fixed.{Fixed}
 use Rattle.machine.specs.declared.Ending.the-variants.{Lf, Cr, CrLf}
 use Rattle.machine.specs.Outcome.{Outcome, stop, go, _>>=_}
 use Rattle.machine.specs.State.{State, Call, start}
 use Rattle.machine.specs.Turn.{spanOf, strOf}
 use Rattle.machine.specs.Media.{definitionLabels}
 use Rattle.machine.specs.Section.{footnoteLabels}
-use Rattle.machine.specs.Run.{parseEnding, endingOf, turnsOf}
+use Rattle.machine.specs.Run.{parseEnding, endingOf, areBegun, turnsOf}
 use Rattle.bounded.specs.Within.{Goes}
 use Rattle.clean.specs.Clean.{Clean, All, empty, more}
 use Rattle.clean.specs.Section.{Noted, Called}
@@ -46,6 +47,7 @@ use Rattle.never.proofs.Definitions.{Outside, Inside}
 use Rattle.never.proofs.Pursued.{texts}
 use Rattle.never.proofs.Second.{Second, second-kept}
 use Rattle.never.proofs.Beginning.{first-kept}
+use Rattle.never.proofs.Begun.{begun}
 
 -- ---- the line ending
 
@@ -65,8 +67,8 @@ unfolding identities
 none-left n text id (inl x) = x
 none-left n text id (inr l) = clash l refl
 
-clean-start : (ending : Ending) → Clean (start ending)
-clean-start ending = start-clean ending
+clean-start : (fixed : Fixed) → Clean (start fixed)
+clean-start fixed = start-clean fixed
 
 module _ (text events : List ℕ) (meets : Meets text events) where
   pub ending-goes : (d : Ending) (p : ℕ) (before es : List Event) → Here (eventsOf events) p before es → R.Goes (endingOf d text es)
@@ -99,17 +101,21 @@ module _ (text events : List ℕ) (meets : Meets text events) where
     exits-are : (n : ℕ) → exits n All-events ≡ enters n All-events
     exits-are n = rw (grown .same) (paired-exits n (grown .forest) (paired (grown .kinds)))
 
+    pub begins : areBegun All-events ≡ true
+    unfolding areBegun
+    begins = rw (grown .same) (begun (grown .forest) [] (paired (grown .kinds)) refl)
+
     few-notes : length (identities 65 text All-events) ≤ 64
     few-notes =
         let f : exits 65 All-events ≤ enters 63 All-events = rw (grown .same) (few-labels (grown .kinds) (grown .takes) (paired (grown .kinds))) in
         omega (arith, f, identities-long 65 text All-events, meets .counts .footnotes)
 
     -- at the start
-    outside-start : (ending : Ending) → Outside text events meets 0 [] All-events (start ending)
+    outside-start : (fixed : Fixed) → Outside text events meets 0 [] All-events (start fixed)
     unfolding start
-    outside-start ending =
+    outside-start fixed =
         record {
-          steady = record { here = record { long = refl; same = refl }; ids = tt; marker = λ m q. absurd (unset q); read = tt; clean = clean-start ending };
+          steady = record { here = record { long = refl; same = refl }; ids = tt; marker = λ m q. absurd (unset q); read = tt; clean = clean-start fixed };
           defined = record { known = tt; room = omega (arith, exits-are 53, meets .counts .definitions); unnoted = refl; uncalled = refl };
         }
       where
@@ -131,10 +137,10 @@ module _ (text events : List ℕ) (meets : Meets text events) where
         unset o p q = let z : _≡_ {A = ℕ} 0 1 = cc in omega arith
 
     -- every turn is taken, and nothing is left open
-    pub turns-go : (ending : Ending) → (v : State) × Goes (turnsOf text o All-events) (start ending) v × (v .captures ≡ []) × Clean v × Called v
-    turns-go ending =
+    pub turns-go : (fixed : Fixed) → (v : State) × Goes (turnsOf text o All-events) (start fixed) v × (v .captures ≡ []) × Clean v × Called v
+    turns-go fixed =
         let q = all-turns text o (Outside text events meets) (Second text events meets few-notes) (Inside text events meets) (first-kept text events meets few-notes o) (second-kept text events meets few-notes o (Rests text o (Outside text events meets) (Second text events meets few-notes) (Inside text events meets)))
-        All-events ending grown (outside-start ending) turned in
+        All-events fixed grown (outside-start fixed) turned in
         let z = q .2 .after in
         let n = footed (q .0) (between-labels (q .0) (q .2 .between)) (q .2 .before) (z .footed .known) in
         (q .0, q .1, none-long (q .0 .captures) (q .2 .between .low .captures), z .steady .clean, called (q .0) (q .2 .before) (z .steady .here .same) n (q .0 .kept .calls) (z .tally .each))

@@ -12,7 +12,7 @@ use Rattle.machine.specs.Media as M
 use Rattle.machine.specs.Media.{definitionLabels}
 use Rattle.machine.specs.Section.{footnoteLabels}
 use Rattle.machine.specs.Footnote.{callIndex, countAt}
-use Rattle.machine.specs.Command.{Command, _▸_, whether, nothing, put, slice, chunk, reference, url, rank, start, alignment, lineEnding, lineEndingIfNeeded, buffer, drop, resume, resumeCode, hold, release, set, tighten, loosen, keepRank, forgetRank, seenData, fences, countFence, marker, first, columns, noColumns, nextColumn, firstColumn, openMedia, closeMedia, store, emptyDestination, identify, leaveImage, seekDefinition, show, keepDefinition, footnoteLabel, keepFootnote, call, missingCells, tail}
+use Rattle.machine.specs.Command.{Command, nothing, step, _▸_, whether, missingCells, Step, write, capture, setext, mode, wait, column, medium, retain, Wait, keepRank, forgetRank, seenData, fences, countFence, marker, reference, first, Medium, openMedia, closeMedia, store, emptyDestination, identify, seekDefinition, Keep, keepDefinition, footnoteLabel, keepFootnote, call, tail}
 use Rattle.shape.specs.Facts.{isSet}
 
 -- ---- the values
@@ -139,57 +139,50 @@ doTo text e (x ∷ xs) v = doTo text e xs (doesTo text e x v)
 
 -- ---- by commands
 
+abbrev pub waitEffects : Wait → List Effect
+waitEffects keepRank = []
+waitEffects forgetRank = []
+waitEffects (seenData v) = []
+waitEffects (fences v) = []
+waitEffects countFence = []
+waitEffects (marker m) = marks m ∷ []
+waitEffects reference = unmarks ∷ []
+waitEffects (first v) = []
+
+abbrev pub mediumEffects : Medium → List Effect
+mediumEffects (openMedia image) = pushes ∷ []
+mediumEffects closeMedia = pops ∷ []
+mediumEffects (store M.label) = []
+mediumEffects (store M.destination) = leads ∷ []
+mediumEffects (store M.title) = []
+mediumEffects emptyDestination = leads ∷ []
+mediumEffects (identify M.labelId) = names ∷ []
+mediumEffects (identify M.referenceId) = refers ∷ []
+mediumEffects seekDefinition = seeks ∷ []
+
+abbrev pub keepEffects : Keep → List Effect
+keepEffects keepDefinition = defines ∷ []
+keepEffects footnoteLabel = labels ∷ []
+keepEffects keepFootnote = notes ∷ []
+keepEffects call = calls ∷ []
+
+abbrev pub stepEffects : Step → List Effect
+stepEffects (write x) = []
+stepEffects (capture x) = []
+stepEffects (setext x) = []
+stepEffects (mode x) = []
+stepEffects (wait x) = waitEffects x
+stepEffects (column x) = []
+stepEffects (medium x) = mediumEffects x
+stepEffects (retain x) = keepEffects x
+
 -- nothing is done on either way of a choice
 unfoldable pub effectsOf : Command → List Effect
+effectsOf nothing = []
+effectsOf (step x) = stepEffects x
 effectsOf (c ▸ d) = effectsOf c ++ effectsOf d
 effectsOf (whether q c d) = []
 effectsOf (missingCells c) = []
-effectsOf nothing = []
-effectsOf (put text) = []
-effectsOf slice = []
-effectsOf chunk = []
-effectsOf reference = unmarks ∷ []
-effectsOf (url scheme) = []
-effectsOf rank = []
-effectsOf start = []
-effectsOf alignment = []
-effectsOf lineEnding = []
-effectsOf lineEndingIfNeeded = []
-effectsOf buffer = []
-effectsOf drop = []
-effectsOf (resume before after) = []
-effectsOf resumeCode = []
-effectsOf hold = []
-effectsOf release = []
-effectsOf (set flag v) = []
-effectsOf (tighten v) = []
-effectsOf loosen = []
-effectsOf keepRank = []
-effectsOf forgetRank = []
-effectsOf (seenData v) = []
-effectsOf (fences v) = []
-effectsOf countFence = []
-effectsOf (marker m) = marks m ∷ []
-effectsOf (first v) = []
-effectsOf columns = []
-effectsOf noColumns = []
-effectsOf nextColumn = []
-effectsOf firstColumn = []
-effectsOf (openMedia image) = pushes ∷ []
-effectsOf closeMedia = pops ∷ []
-effectsOf (store M.label) = []
-effectsOf (store M.destination) = leads ∷ []
-effectsOf (store M.title) = []
-effectsOf emptyDestination = leads ∷ []
-effectsOf (identify M.labelId) = names ∷ []
-effectsOf (identify M.referenceId) = refers ∷ []
-effectsOf leaveImage = []
-effectsOf seekDefinition = seeks ∷ []
-effectsOf (show part) = []
-effectsOf keepDefinition = defines ∷ []
-effectsOf footnoteLabel = labels ∷ []
-effectsOf keepFootnote = notes ∷ []
-effectsOf call = calls ∷ []
 
 abbrev pub isNone : List Effect → Bool
 isNone [] = true
@@ -197,49 +190,8 @@ isNone (x ∷ xs) = false
 
 -- both ways of each choice in it do nothing
 unfoldable pub tracks : Command → Bool
+tracks nothing = true
+tracks (step x) = true
 tracks (c ▸ d) = tracks c && tracks d
 tracks (whether q c d) = (tracks c && isNone (effectsOf c)) && (tracks d && isNone (effectsOf d))
 tracks (missingCells c) = tracks c && isNone (effectsOf c)
-tracks nothing = true
-tracks (put text) = true
-tracks slice = true
-tracks chunk = true
-tracks reference = true
-tracks (url scheme) = true
-tracks rank = true
-tracks start = true
-tracks alignment = true
-tracks lineEnding = true
-tracks lineEndingIfNeeded = true
-tracks buffer = true
-tracks drop = true
-tracks (resume before after) = true
-tracks resumeCode = true
-tracks hold = true
-tracks release = true
-tracks (set flag v) = true
-tracks (tighten v) = true
-tracks loosen = true
-tracks keepRank = true
-tracks forgetRank = true
-tracks (seenData v) = true
-tracks (fences v) = true
-tracks countFence = true
-tracks (marker m) = true
-tracks (first v) = true
-tracks columns = true
-tracks noColumns = true
-tracks nextColumn = true
-tracks firstColumn = true
-tracks (openMedia image) = true
-tracks closeMedia = true
-tracks (store part) = true
-tracks emptyDestination = true
-tracks (identify id) = true
-tracks leaveImage = true
-tracks seekDefinition = true
-tracks (show part) = true
-tracks keepDefinition = true
-tracks footnoteLabel = true
-tracks keepFootnote = true
-tracks call = true

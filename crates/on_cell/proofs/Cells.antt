@@ -12,15 +12,15 @@ use Rattle.machine.specs.Outcome.{go, need}
 use Rattle.machine.specs.Set.{setColumn}
 use Rattle.machine.specs.Turn.{Turn}
 use Rattle.machine.specs.Test.{Test, isPastColumns, test}
-use Rattle.machine.specs.Command.{Command, _▸_, whether, put, alignment, lineEndingIfNeeded, nextColumn, missingCells, repeat, buffer, drop, exec}
+use Rattle.machine.specs.Command.{Command, _▸_, whether, missingCells, repeat, exec}
+use Rattle.machine.specs.Words.{put, alignment, lineEndingIfNeeded, nextColumn, buffer, drop}
 use Rattle.machine.specs.OnTable.{onEnterGfmTableCell, onExitGfmTableCell}
+use Rattle.machine.proofs.Outcomes.{first-goes, need-goes}
 use Rattle.bounded.specs.Within.{within}
 use Rattle.bounded.proofs.Bounds.{done}
 use Rattle.context.specs.declared.Context.{Context}
 use Rattle.context.specs.Rel.{Rel, Any, Keeps, Sets}
-use Rattle.context.proofs.Commands.{first-goes}
 use Rattle.table.specs.Table.{Lacks}
-use Rattle.table.proofs.Asked.{needed}
 use Rattle.on_cell.specs.Private.{cellName, openingCell, closingCell, phantomCell, AddsCell}
 use Rattle.on_cell.proofs.Leaves.{leaves-seq, leaves-whether, leaves-put, leaves-line, leaves-alignment}
 
@@ -48,10 +48,10 @@ unfolding within onEnterGfmTableCell onExitGfmTableCell
 way t s u a p =
     let f = first-goes (within onEnterGfmTableCell t s) (λ y. within onExitGfmTableCell t y) u p in
     let i = answered-no isPastColumns buffer openingCell t s (f .0) a (f .1) in
-    let l = leaves-seq leaves-line (leaves-seq (leaves-whether leaves-put leaves-put) (leaves-seq leaves-alignment leaves-put)) .leaves t s (f .0) i in
+    let l = leaves-seq leaves-line (leaves-seq (leaves-whether (leaves-put {text = "<th"}) (leaves-put {text = "<td"})) (leaves-seq leaves-alignment (leaves-put {text = ">"}))) .leaves t s (f .0) i in
     let g = first-goes (within (whether isPastColumns drop closingCell) t (f .0)) (λ y. within nextColumn t y) u (f .2) in
     let j = answered-no isPastColumns drop closingCell t (f .0) (g .0) (still t s (f .0) l a) (g .1) in
-    let m = leaves-whether leaves-put leaves-put .leaves t (f .0) (g .0) j in
+    let m = leaves-whether (leaves-put {text = "</th>"}) (leaves-put {text = "</td>"}) .leaves t (f .0) (g .0) j in
     record { opened = f .0; closed = g .0; opens = i; closes = j; counts = g .2; table = m ∙ l }
 
 -- one command and then another
@@ -100,8 +100,8 @@ pub all-left : {c : Context} {w o : List ℕ} {left : ℕ} → Lacks c left → 
 unfolding within
 all-left {c} {w} {o} {left} k = record {
   midway = λ t b s u x p.
-      let f = first-goes (need (s .table .aligns)) (λ (aligns : List ℕ). repeat (length aligns - s .table .column) (λ v. within phantomCell t v) s) u p in
-      let a = needed (s .table .aligns) (f .0) (f .1) in
+      let f = need-goes (s .table .aligns) (λ (aligns : List ℕ). repeat (length aligns - s .table .column) (λ v. within phantomCell t v) s) u p in
+      let a = f .1 in
       let e = k .lacks w o b (f .0) s x a in
       record { state = s; rel = x; aligns = f .0; aligns-are = a; left-is = e; rest = rw e (f .2) };
 }

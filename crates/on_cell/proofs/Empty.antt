@@ -11,14 +11,16 @@ use Rattle.machine.specs.Buffers.{push}
 use Rattle.machine.specs.Set.{head, setPage, setCaptures}
 use Rattle.machine.specs.Turn.{Turn}
 use Rattle.machine.specs.Test.{is, test}
-use Rattle.machine.specs.Command.{Command, _▸_, whether, put, exec}
+use Rattle.machine.specs.Command.{Command, _▸_, whether, exec}
+use Rattle.machine.specs.Words.{put}
+use Rattle.machine.proofs.Outcomes.{first-goes}
 use Rattle.bounded.specs.Within.{within}
 use Rattle.bounded.proofs.Bounds.{done}
 use Rattle.buffers.proofs.Laws.{push-nil, push-cons}
 use Rattle.context.specs.declared.Context.{Context}
 use Rattle.context.specs.Rel.{Any, Keeps, Pushes, Tells}
 use Rattle.context.proofs.Laws.{pushed}
-use Rattle.context.proofs.Commands.{first-goes, flag-told}
+use Rattle.context.proofs.Commands.{flag-told}
 use Rattle.on_cell.specs.Private.{closingCell}
 
 push-join : (a b : List ℕ) (s : State) → push b (push a s) ≡ push (a ++ b) s

@@ -7,15 +7,16 @@ use Prim.Native.String.{String}
 use Rattle.lent.specs.Bytes.{if_then_else_, bytes}
 use Rattle.machine.specs.State.{State}
 use Rattle.machine.specs.Outcome.{go}
-use Rattle.machine.specs.Buffers.{push, endLine, endLineIfNeeded, endingBytes, isEol, lastOr, newestOf}
+use Rattle.machine.specs.Buffers.{push, endingIfNeeded}
 use Rattle.machine.specs.Text.{alignText}
 use Rattle.machine.specs.Turn.{Turn}
 use Rattle.machine.specs.Test.{Test, test}
-use Rattle.machine.specs.Command.{Command, _▸_, whether, put, alignment, lineEndingIfNeeded, exec}
+use Rattle.machine.specs.Command.{Command, _▸_, whether, exec}
+use Rattle.machine.specs.Words.{put, alignment, lineEndingIfNeeded}
+use Rattle.machine.proofs.Outcomes.{first-goes}
 use Rattle.bounded.specs.Within.{within}
 use Rattle.bounded.proofs.Bounds.{done}
 use Rattle.context.proofs.Laws.{pushed}
-use Rattle.context.proofs.Commands.{first-goes}
 use Rattle.table.proofs.Asked.{went-aligned}
 
 pub record Leaves (d : Command) : Type 0 where
@@ -50,12 +51,8 @@ unfolding exec within
 leaves-put {text} = record { leaves = λ t s u p. appended (bytes text) s u (done true (go (push (bytes text) s)) u p .went) }
 
 pub leaves-line : Leaves lineEndingIfNeeded
-unfolding exec within endLineIfNeeded endLine
-leaves-line = record { leaves = λ t s u p. on s u (isEol (lastOr 10 (newestOf (s .page) (s .captures)))) (done true (go (endLineIfNeeded s)) u p .went) }
-  where
-    on : (s u : State) (x : Bool) → go (if x then s else endLine s) ≡ go u → u .table ≡ s .table
-    on s u true p = let q : s ≡ u = cc in ap (λ (v : State). v .table) (sym q)
-    on s u false p = appended (endingBytes (s .ending)) s u p
+unfolding exec within
+leaves-line = record { leaves = λ t s u p. appended (endingIfNeeded s) s u (done true (go (push (endingIfNeeded s) s)) u p .went) }
 
 pub leaves-alignment : Leaves alignment
 leaves-alignment = record { leaves = λ t s u p. (let g = went-aligned t s u p in appended (alignText (g .one)) s u (g .pushed-so)) }

@@ -8,7 +8,8 @@ use Rattle.machine.specs.Outcome.{go}
 use Rattle.machine.specs.Set.{head}
 use Rattle.machine.specs.Turn.{Turn}
 use Rattle.machine.specs.Test.{is, isPastColumns, test}
-use Rattle.machine.specs.Command.{Command, _▸_, whether, put, alignment, lineEndingIfNeeded}
+use Rattle.machine.specs.Command.{Command, _▸_, whether}
+use Rattle.machine.specs.Words.{put, alignment, lineEndingIfNeeded}
 use Rattle.machine.specs.OnTable.{onEnterGfmTableCell, onExitGfmTableCell}
 use Rattle.bounded.specs.Within.{within}
 use Rattle.context.specs.declared.Context.{Context}

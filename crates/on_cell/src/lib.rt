@@ -1,6 +1,7 @@
 // Handlers of the rows and cells of a table, by their Rust names.
 ghost use Rattle.machine.specs.OnTable.{onEnterGfmTableCell, onExitGfmTableCell, onEnterGfmTableRow, onExitGfmTableRow};
-ghost use Rattle.machine.specs.Command.{_▸_, put, missingCells};
+ghost use Rattle.machine.specs.Command.{_▸_, missingCells};
+ghost use Rattle.machine.specs.Words.{put};
 ghost use Rattle.context.specs.Rel.{Any, Keeps, Opens, Takes};
 ghost use Rattle.on_cell.specs.Private.{cellName, openingCell, closingCell, phantomCell, AddsCell};
 use context::Context;

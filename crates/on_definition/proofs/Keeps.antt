@@ -12,13 +12,14 @@ use Rattle.machine.specs.Outcome.{go, _>>=_, need}
 use Rattle.machine.specs.Set.{setMedia, addDefinition}
 use Rattle.machine.specs.Turn.{Turn, strOf}
 use Rattle.machine.specs.Media.{ownOf, define}
-use Rattle.machine.specs.Command.{_▸_, keepDefinition, drop, exec}
+use Rattle.machine.specs.Command.{_▸_, exec}
+use Rattle.machine.specs.Words.{keepDefinition, drop}
+use Rattle.machine.proofs.Outcomes.{first-goes}
 use Rattle.bounded.specs.Within.{within}
 use Rattle.bounded.proofs.Bounds.{done, fits}
 use Rattle.regions.specs.Regions.{regionAt}
 use Rattle.context.specs.declared.Context.{Context}
 use Rattle.context.specs.Rel.{Ends}
-use Rattle.context.proofs.Commands.{first-goes}
 use Rattle.links.specs.declared.Links.{Links}
 use Rattle.links.specs.declared.Piece as Links
 use Rattle.links.specs.declared.Span.{Span}
@@ -69,7 +70,7 @@ defined-there t s u p =
     record { newest = f .0; others = f .1; span = g .0; label = h .0; media-is = f .2; span-is = needed (f .0 .referenceId) (g .0) (g .1); label-there = h .1; then-is = cc-go {a = withDefinition (h .0) (f .0) (f .1) s} (h .2) }
 
 alike-definition : (label : List ℕ) (m : State.Media) (ms : List State.Media) (s : State) → Alike s (withDefinition label m ms s)
-alike-definition label m ms s = record { page = refl; captures = refl; flags = refl; rank = refl; seen = refl; fences = refl; marker = refl; first = refl; tight = refl; table = refl; ending = refl }
+alike-definition label m ms s = record { page = refl; captures = refl; flags = refl; rank = refl; seen = refl; fences = refl; marker = refl; first = refl; tight = refl; table = refl; fixed = refl }
 
 -- ---- numbers, apart
 

@@ -15,9 +15,8 @@ use Rattle.machine.specs.Turn.{Turn, strOf}
 use Rattle.machine.specs.Media as M
 use Rattle.machine.specs.Media.{definedAt, definitionLabels}
 use Rattle.machine.specs.Totals.{kept}
+use Rattle.machine.proofs.Outcomes.{never, first-goes}
 use Rattle.regions.specs.Regions.{regionAt}
-use Rattle.context.proofs.Plain.{never}
-use Rattle.context.proofs.Commands.{first-goes}
 use Rattle.links.specs.declared.Links.{Links}
 use Rattle.links.specs.declared.Span.{Span}
 use Rattle.links.specs.declared.Label.{Label}
@@ -51,7 +50,7 @@ module _ {text : List ℕ} {b : Whole} {w : World} {s : State} where
   led m ms k q i y = record {
     long = y .long;
     places = y .places;
-    context = rel-alike (record { page = refl; captures = refl; flags = refl; rank = refl; seen = refl; fences = refl; marker = refl; first = refl; tight = refl; table = refl; ending = refl }) (y .context);
+    context = rel-alike (record { page = refl; captures = refl; flags = refl; rank = refl; seen = refl; fences = refl; marker = refl; first = refl; tight = refl; table = refl; fixed = refl }) (y .context);
     links = k .leads (regionAt 16384 (w .work)) s m ms q i (y .links);
     kept = keeps-same refl refl (y .kept);
   }

@@ -15,11 +15,11 @@ use Rattle.machine.specs.Set.{setMedia, setDestination}
 use Rattle.machine.specs.Turn.{Turn}
 use Rattle.machine.specs.Media.{labelOf, destinationOf, definedAt, definitionLabels, ownOf, newestMedia, onNewest, seek}
 use Rattle.machine.specs.Totals.{size, mediaSizes, held, kept}
-use Rattle.machine.specs.Command.{seekDefinition, exec}
+use Rattle.machine.specs.Command.{exec}
+use Rattle.machine.specs.Words.{seekDefinition}
+use Rattle.machine.proofs.Outcomes.{never, first-goes}
 use Rattle.bounded.specs.Within.{within}
 use Rattle.bounded.proofs.Bounds.{done}
-use Rattle.context.proofs.Plain.{never}
-use Rattle.context.proofs.Commands.{first-goes}
 use Rattle.whole.proofs.Media.{cc-go, newest-there}
 use Rattle.show.proofs.Steady.{Steady}
 use Rattle.on_definition.specs.Private.{Sought}

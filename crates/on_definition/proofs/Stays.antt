@@ -8,7 +8,7 @@ use Rattle.machine.specs.State.{State, noDestination, own, defined}
 use Rattle.machine.specs.Outcome.{go}
 use Rattle.machine.specs.Media.{destinationOf}
 use Rattle.machine.specs.Totals.{kept}
-use Rattle.machine.specs.Command.{seekDefinition}
+use Rattle.machine.specs.Words.{seekDefinition}
 use Rattle.regions.specs.Regions.{regionAt}
 use Rattle.links.specs.declared.Piece.{Piece}
 use Rattle.links.specs.declared.Destination.{Destination}

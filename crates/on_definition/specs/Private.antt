@@ -10,7 +10,7 @@ use Rattle.machine.specs.Set.{setMedia, setDestination}
 use Rattle.machine.specs.Turn.{Turn, strOf}
 use Rattle.machine.specs.Media as M
 use Rattle.machine.specs.Media.{destinationOf, definedAt, definitionLabels}
-use Rattle.machine.specs.Command.{keepDefinition}
+use Rattle.machine.specs.Words.{keepDefinition}
 use Rattle.normalize_identifier.specs.Search.{firstSame}
 use Rattle.links.specs.declared.Piece.{Piece}
 use Rattle.links.specs.declared.Text.{Text}

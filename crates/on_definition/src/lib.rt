@@ -1,7 +1,7 @@
 // Definitions: kept where one ends, and sought where a link or an image ends.
 ghost use mathlib.Core.Path.{_≡_};
 ghost use Prim.Native.Nat.{suc, min, _+_};
-ghost use Rattle.machine.specs.Command.{seekDefinition, keepDefinition};
+ghost use Rattle.machine.specs.Words.{seekDefinition, keepDefinition};
 ghost use Rattle.machine.specs.OnMedia.{onExitDefinition};
 ghost use Rattle.whole.specs.Whole.{Held, Roomy};
 ghost use Rattle.on_definition.specs.Definitions.{Known, FromDefinitions, OnDefinitions};

@@ -3,7 +3,8 @@ ghost use Rattle.machine.specs.OnFlow.{onEnterParagraph, onExitParagraph, onEnt
 ghost use mathlib.Core.Bool.{true};
 ghost use Rattle.machine.specs.Set.{slurp};
 ghost use Rattle.machine.specs.Test.{isFirstFence, isFencedOnce, isInContainer, isBehindFence, hasSeenData, isFenceMissing};
-ghost use Rattle.machine.specs.Command.{_▸_, when, unless, put, set, lineEnding, lineEndingIfNeeded};
+ghost use Rattle.machine.specs.Command.{_▸_};
+ghost use Rattle.machine.specs.Words.{when, unless, put, set, lineEnding, lineEndingIfNeeded};
 ghost use Rattle.context.specs.Rel.{Any, Keeps, Takes, FenceBefore};
 use context::Answer;
 use context::Context;

@@ -10,7 +10,9 @@ use Rattle.machine.specs.Outcome.{Outcome, go, _>>=_}
 use Rattle.machine.specs.Set.{setCaptures, setLabels, addFootnote}
 use Rattle.machine.specs.Turn.{Turn, strOf}
 use Rattle.machine.specs.Footnote.{splitLabels, keep}
-use Rattle.machine.specs.Command.{_▸_, keepFootnote, loosen, exec}
+use Rattle.machine.specs.Command.{_▸_, exec}
+use Rattle.machine.specs.Words.{keepFootnote, loosen}
+use Rattle.machine.proofs.Outcomes.{never, first-goes}
 use Rattle.bounded.specs.Within.{within}
 use Rattle.bounded.proofs.Bounds.{done, fits}
 use Rattle.regions.specs.Regions.{regionAt}
@@ -18,9 +20,7 @@ use Rattle.buffers.specs.declared.Buffers.{Buffers}
 use Rattle.buffers.specs.Stand as Stand
 use Rattle.context.specs.declared.Context.{Context}
 use Rattle.context.specs.Rel.{Sets}
-use Rattle.context.proofs.Plain.{never}
 use Rattle.context.proofs.Laws.{withBuffers}
-use Rattle.context.proofs.Commands.{first-goes}
 use Rattle.links.specs.Links.{Linked}
 use Rattle.kept.specs.declared.Kept.{Kept}
 use Rattle.kept.specs.Kept.{Piece, Keeps}
@@ -66,7 +66,7 @@ body-there t s u p =
     record { body = f .0; others = f .1; span = g .0; spans = g .1; label = h .0; captures-are = f .2; labels-are = g .2; label-there = h .1; then-is = cc-go {a = withBody (h .0) (f .0) (g .1) (setCaptures (f .1) s)} (h .2) }
 
 alike-body : (label body : List ℕ) (ps : List Span) (s : State) → Alike s (withBody label body ps s)
-alike-body label body ps s = record { page = refl; captures = refl; flags = refl; rank = refl; seen = refl; fences = refl; marker = refl; first = refl; tight = refl; table = refl; ending = refl }
+alike-body label body ps s = record { page = refl; captures = refl; flags = refl; rank = refl; seen = refl; fences = refl; marker = refl; first = refl; tight = refl; table = refl; fixed = refl }
 
 -- ---- numbers, apart: there is too much in reach below
 

@@ -15,8 +15,7 @@ use Rattle.machine.specs.Set.{setMedia, setCalls}
 use Rattle.machine.specs.Buffers.{push}
 use Rattle.machine.specs.Turn.{Turn, strOf}
 use Rattle.machine.specs.Footnote.{addressOf, callIndex, countAt, timesAt, callText, callNote}
-use Rattle.context.proofs.Plain.{never}
-use Rattle.context.proofs.Commands.{first-goes}
+use Rattle.machine.proofs.Outcomes.{never, first-goes}
 use Rattle.links.specs.declared.Span.{Span}
 use Rattle.links.specs.declared.Label.the-variants as L
 use Rattle.links.specs.Links.{labelOf, spanIs}

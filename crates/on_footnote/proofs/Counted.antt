@@ -12,7 +12,8 @@ use Rattle.machine.specs.Set.{alt, setCalls}
 use Rattle.machine.specs.Buffers.{push}
 use Rattle.machine.specs.Footnote.{addressOf, callIndex, countAt, timesAt, callText, callNote}
 use Rattle.machine.specs.Test as Test
-use Rattle.machine.specs.Command.{call, exec}
+use Rattle.machine.specs.Command.{exec}
+use Rattle.machine.specs.Words.{call}
 use Rattle.bounded.specs.Within.{fitting, within}
 use Rattle.bounded.proofs.Bounds.{done, fits}
 use Rattle.regions.specs.Regions.{regionAt}
@@ -37,7 +38,7 @@ use Rattle.on_footnote.specs.Private.{CallsLabel, WritesCall}
 use Rattle.on_footnote.proofs.Calls.{counted, textOf, kept-is, counted-there, KnownCall, known, unlabelled}
 
 alike-counted : (label : List ℕ) (ms : List State.Media) (s : State) → Alike s (counted label ms s)
-alike-counted label ms s = record { page = refl; captures = refl; flags = refl; rank = refl; seen = refl; fences = refl; marker = refl; first = refl; tight = refl; table = refl; ending = refl }
+alike-counted label ms s = record { page = refl; captures = refl; flags = refl; rank = refl; seen = refl; fences = refl; marker = refl; first = refl; tight = refl; table = refl; fixed = refl }
 
 long-enough : {n : ℕ} → n ≡ 49152 → 16384 ≤ n
 long-enough e = omega arith

@@ -10,7 +10,8 @@ use Rattle.machine.specs.State.{State, Span}
 use Rattle.machine.specs.Outcome.{go}
 use Rattle.machine.specs.Set.{setLabels}
 use Rattle.machine.specs.Turn.{spanOf}
-use Rattle.machine.specs.Command.{footnoteLabel, exec}
+use Rattle.machine.specs.Command.{exec}
+use Rattle.machine.specs.Words.{footnoteLabel}
 use Rattle.bounded.specs.Within.{within}
 use Rattle.bounded.proofs.Bounds.{done, fits}
 use Rattle.kept.specs.declared.Kept.{Kept}
@@ -22,7 +23,7 @@ use Rattle.whole.proofs.Media.{cc-go}
 use Rattle.on_footnote.specs.Footnotes.{IsEvent, OnLabels}
 
 alike-labels : (x : List Span) (s : State) → Alike s (setLabels x s)
-alike-labels x s = record { page = refl; captures = refl; flags = refl; rank = refl; seen = refl; fences = refl; marker = refl; first = refl; tight = refl; table = refl; ending = refl }
+alike-labels x s = record { page = refl; captures = refl; flags = refl; rank = refl; seen = refl; fences = refl; marker = refl; first = refl; tight = refl; table = refl; fixed = refl }
 
 pub opens-label : {e : Event} {b : Whole} {labels labels′ : List ℕ} {k : Kept} → OpensLabel (b .kept) (e .from .0) (e .to .0) labels k labels′ → OnLabels Always (IsEvent e) footnoteLabel b labels (withKept k b) labels′
 unfolding within exec

@@ -5,7 +5,7 @@ use Prim.Native.Nat.{ℕ, suc, _≤_, _<_}
 use lib.ListN.{length, take, drop}
 use Rattle.machine.specs.Buffers.{push}
 use Rattle.machine.specs.Footnote.{addressOf, callText}
-use Rattle.machine.specs.Command.{call}
+use Rattle.machine.specs.Words.{call}
 use Rattle.buffers.specs.declared.Buffers.{Buffers}
 use Rattle.buffers.specs.Stand as Stand
 use Rattle.links.specs.declared.Span.{Span}

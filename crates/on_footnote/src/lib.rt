@@ -1,6 +1,6 @@
 // Handlers of footnotes, by their Rust names.
 ghost use Rattle.machine.specs.OnFootnote.{onEnterGfmFootnoteCall, onExitGfmFootnoteCall, onExitGfmFootnoteDefinitionLabelString, onExitGfmFootnoteDefinition};
-ghost use Rattle.machine.specs.Command.{keepFootnote};
+ghost use Rattle.machine.specs.Words.{keepFootnote};
 ghost use Rattle.context.specs.Rel.{Any};
 ghost use Rattle.whole.specs.Whole.{Always, Held, Roomy, Unlent};
 ghost use Rattle.on_footnote.specs.Footnotes.{IsEvent, OnLabels, OnFootnotes, OnCalls};

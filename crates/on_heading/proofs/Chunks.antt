@@ -1,5 +1,5 @@
 -- A line of code between its virtual spaces. Assumes nothing.
-use mathlib.Core.Path.{_≡_, refl}
+use mathlib.Core.Path.{_≡_, ap}
 use mathlib.Core.Bool.{Bool, true}
 use mathlib.Core.List.{List, _++_}
 use Prim.Native.Nat.{ℕ, _-_, _<_}
@@ -9,10 +9,12 @@ use Rattle.event.specs.declared.Event.{Event}
 use Rattle.machine.specs.State.{State}
 use Rattle.machine.specs.Outcome.{go, _>>=_}
 use Rattle.machine.specs.Set.{encode}
-use Rattle.machine.specs.Buffers.{push, pushEncoded}
+use Rattle.machine.specs.Buffers.{push}
 use Rattle.machine.specs.Turn.{Turn, ownStr}
 use Rattle.machine.specs.Test.{is}
-use Rattle.machine.specs.Command.{chunk, exec}
+use Rattle.machine.specs.Command.{exec}
+use Rattle.machine.specs.Words.{chunk}
+use Rattle.machine.proofs.Outcomes.{joins}
 use Rattle.bounded.specs.Within.{one, within}
 use Rattle.buffers.specs.declared.Buffers.{Buffers}
 use Rattle.buffers.specs.Stand as Stand
@@ -28,8 +30,8 @@ abbrev encoded : Turn → State → List ℕ → List ℕ
 encoded t s b = encodeOf (s .flags .encode) (spaced (t .event) b)
 
 is-chunk : (t : Turn) (s : State) → within chunk t s ≡ one true (ownStr t >>= λ b. go (push (encoded t s b) s))
-unfolding exec within pushEncoded
-is-chunk t s = refl
+unfolding exec within
+is-chunk t s = ap (one true) (joins (ownStr t) (encoded t s) (λ b. go (push b s)))
 
 module _ (text : List ℕ) (e : Event) {c : Context} {w o : List ℕ} where
   pub chunk-back : e .to .0 < e .from .0 → Keeps (Sees text e) chunk c w o c w o

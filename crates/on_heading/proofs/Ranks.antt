@@ -17,7 +17,9 @@ use Rattle.machine.specs.Set.{setRank}
 use Rattle.machine.specs.Buffers.{push}
 use Rattle.machine.specs.Text.{decimal}
 use Rattle.machine.specs.Turn.{Turn, spanOf, sliceOf}
-use Rattle.machine.specs.Command.{rank, keepRank, exec}
+use Rattle.machine.specs.Command.{exec}
+use Rattle.machine.specs.Words.{rank, keepRank}
+use Rattle.machine.proofs.Outcomes.{never, first-goes, joins}
 use Rattle.bounded.specs.Within.{within}
 use Rattle.bounded.proofs.Bounds.{done}
 use Rattle.buffers.specs.declared.Buffers.{Buffers}
@@ -26,8 +28,6 @@ use Rattle.context.specs.declared.Number.the-variants as N
 use Rattle.context.specs.declared.Context.{Context}
 use Rattle.context.specs.Rel.{Any, Sees, Keeps, SetsFor, Ranks}
 use Rattle.context.proofs.Laws.{withBuffers, rel-buffers, pushed}
-use Rattle.context.proofs.Plain.{never}
-use Rattle.context.proofs.Commands.{first-goes}
 use Rattle.context.proofs.Slices.{passed}
 
 -- ---- kept
@@ -77,6 +77,10 @@ writes : (x : Option ℕ) (s u : State) (n : ℕ) → some n ≡ x → (need x >
 writes none s u n h p = never p
 writes (some m) s u n h p = let i : n ≡ m = cc in rw i (cc)
 
+ranked : (t : Turn) (s u : State) → within rank t s ≡ go u → (need (s .waiting .rank) >>= λ n. go (push (decimal n) s)) ≡ go u
+unfolding exec within
+ranked t s u p = sym (joins (need (s .waiting .rank)) decimal (λ b. go (push b s))) ∙ done true _ u p .went
+
 stays : {X : Type 0} (x : Option ℕ) (s u : State) → none ≡ x → (need x >>= λ n. go (push (decimal n) s)) ≡ go u → X
 stays none s u h p = never p
 stays (some m) s u h p = let z : _≡_ {A = ℕ} 0 1 = cc in absurd (omega arith)
@@ -86,13 +90,13 @@ module _ {c : Context} {w o : List ℕ} where
   pub no-rank : c .rank ≡ N.Unset → Keeps Any rank c w o c w o
   unfolding exec within
   no-rank q = record {
-    keeps = λ t b s u v x p. stays (s .waiting .rank) s u (rw q at (x .waits .rank)) (done true (need (s .waiting .rank) >>= λ n. go (push (decimal n) s)) u p .went);
+    keeps = λ t b s u v x p. stays (s .waiting .rank) s u (rw q at (x .waits .rank)) (ranked t s u p);
   }
 
   pub writes-rank : (n : ℕ) → c .rank ≡ N.Is n → {x : Buffers} {w′ o′ : List ℕ} → Stand.Keeps (push (decimal n)) (c .buffers) w o x w′ o′ → Keeps Any rank c w o (withBuffers x c) w′ o′
   unfolding exec within
   writes-rank n q k = record {
     keeps = λ t b s u v x p.
-        let j = writes (s .waiting .rank) s u n (rw q at (x .waits .rank)) (done true (need (s .waiting .rank) >>= λ n. go (push (decimal n) s)) u p .went) in
+        let j = writes (s .waiting .rank) s u n (rw q at (x .waits .rank)) (ranked t s u p) in
         rw (← j) (rel-buffers x (pushed (decimal n) s) (k .keeps b s (x .stand)));
   }

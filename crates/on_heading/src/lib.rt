@@ -1,5 +1,5 @@
 // Handlers of atx headings and of lines of code, by their Rust names.
-ghost use Rattle.machine.specs.Command.{chunk, rank, keepRank};
+ghost use Rattle.machine.specs.Words.{chunk, rank, keepRank};
 ghost use Rattle.machine.specs.OnFlow.{onExitHeadingAtxSequence, onExitHeadingAtx, onExitRawFlowChunk};
 ghost use Rattle.context.specs.Rel.{Any, Sees, Keeps, SetsFor};
 use context::Answer;

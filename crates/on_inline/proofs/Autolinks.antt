@@ -1,6 +1,6 @@
 -- The event's slice as a URL. Assumes nothing.
-use mathlib.Core.Path.{_≡_}
-use mathlib.Core.Bool.{true, false}
+use mathlib.Core.Path.{_≡_, ap, _∙_}
+use mathlib.Core.Bool.{false}
 use mathlib.Core.List.{List, _++_}
 use Prim.Native.Nat.{ℕ, _<_}
 use Prim.Native.String.{String}
@@ -10,19 +10,21 @@ use Rattle.lent.specs.Bytes.{bytes}
 use Rattle.event.specs.declared.Event.{Event}
 use Rattle.machine.specs.declared.Options.{Options}
 use Rattle.machine.specs.State.{State}
-use Rattle.machine.specs.Outcome.{go, _>>=_}
+use Rattle.machine.specs.Outcome.{go}
 use Rattle.machine.specs.Buffers.{push}
 use Rattle.machine.specs.Turn.{Turn, ownStr, urlOf}
-use Rattle.machine.specs.Command.{url, exec}
+use Rattle.machine.specs.Command as C
+use Rattle.machine.specs.Command.{made}
+use Rattle.machine.specs.Words.{url}
+use Rattle.machine.proofs.Outcomes.{first-goes}
 use Rattle.bounded.specs.Within.{within}
-use Rattle.bounded.proofs.Bounds.{done}
+use Rattle.bounded.proofs.Bounds.{wrote}
 use Rattle.buffers.specs.declared.Buffers.{Buffers}
 use Rattle.buffers.specs.Stand as Stand
 use Rattle.pieces.specs.Pieces.{PushesMail}
 use Rattle.context.specs.declared.Context.{Context}
 use Rattle.context.specs.Rel.{Sees, Keeps}
 use Rattle.context.proofs.Laws.{withBuffers, rel-buffers, pushed}
-use Rattle.context.proofs.Commands.{first-goes}
 use Rattle.on_inline.specs.View.{SeesWith}
 use Rattle.context.proofs.Slices.{Sliced}
 use Rattle.on_inline.proofs.Own.{sliceIn, own}
@@ -33,11 +35,11 @@ addressOf scheme t b = urlOf (t .options) false (bytes scheme ++ b)
 module _ {View : Turn → Type 0} {text : List ℕ} {e : Event} (sees : (t : Turn) → View t → Sees text e t) (scheme : String) where
   -- there is a slice, and it is appended behind the scheme
   went : (t : Turn) (s u : State) → View t → within (url scheme) t s ≡ go u → (b : List ℕ) × Sliced text e b × (push (addressOf scheme t b) s ≡ u)
-  unfolding exec within
   went t s u v p =
-      let q = done true (ownStr t >>= λ b. go (push (addressOf scheme t b) s)) u p .went in
-      let f = first-goes (ownStr t) (λ b. go (push (addressOf scheme t b) s)) u q in
-      (f .0, own t (f .0) (sees t v) (f .1), (let z = f .2 in cc))
+      let q = wrote (made (C.url scheme)) t s u p in
+      let f = first-goes (ownStr t) (λ b. go (addressOf scheme t b)) (q .0) (q .1) in
+      let z : addressOf scheme t (f .0) ≡ q .0 = (let y = f .2 in cc) in
+      (f .0, own t (f .0) (sees t v) (f .1), ap (λ (l : List ℕ). push l s) z ∙ q .2)
 
   module _ {c : Context} {w o : List ℕ} where
     back : e .to .0 < e .from .0 → Keeps View (url scheme) c w o c w o

@@ -12,7 +12,9 @@ use Rattle.machine.specs.Set.{setCaptures}
 use Rattle.machine.specs.Buffers.{push, takeFrom, takeCapture}
 use Rattle.machine.specs.Text.{codeOf}
 use Rattle.machine.specs.Turn.{asStr}
-use Rattle.machine.specs.Command.{resumeCode, exec}
+use Rattle.machine.specs.Command.{exec}
+use Rattle.machine.specs.Words.{resumeCode}
+use Rattle.machine.proofs.Outcomes.{never, first-goes}
 use Rattle.bounded.specs.Within.{within}
 use Rattle.bounded.proofs.Bounds.{done}
 use Rattle.buffers.specs.declared.Buffers.{Buffers}
@@ -22,8 +24,6 @@ use Rattle.context.specs.declared.Context.{Context}
 use Rattle.context.specs.declared.Table.{Table}
 use Rattle.context.specs.Rel.{Any, Takes, enterOf, alignsOf}
 use Rattle.context.proofs.Laws.{withBuffers}
-use Rattle.context.proofs.Plain.{never}
-use Rattle.context.proofs.Commands.{first-goes}
 use Rattle.context.proofs.Slices.{taking}
 use Rattle.on_inline.proofs.Own.{as-str}
 

@@ -16,7 +16,9 @@ use Rattle.machine.specs.Set.{encode, setMarker}
 use Rattle.machine.specs.Buffers.{push, pushEncoded}
 use Rattle.machine.specs.Turn.{Turn, ownStr}
 use Rattle.machine.specs.Test.{is}
-use Rattle.machine.specs.Command.{reference, exec}
+use Rattle.machine.specs.Command.{exec}
+use Rattle.machine.specs.Words.{reference}
+use Rattle.machine.proofs.Outcomes.{never, first-goes}
 use Rattle.bounded.specs.Within.{within}
 use Rattle.bounded.proofs.Bounds.{done}
 use Rattle.buffers.specs.declared.Buffers.{Buffers}
@@ -26,8 +28,7 @@ use Rattle.context.specs.declared.Mark.the-variants as M
 use Rattle.context.specs.declared.Context.{Context}
 use Rattle.context.specs.Rel.{Any, Sees, Keeps, Tells, MarkIs, ForgetsMarker}
 use Rattle.context.proofs.Laws.{withBuffers, rel-buffers, pushed}
-use Rattle.context.proofs.Plain.{never}
-use Rattle.context.proofs.Commands.{first-goes, flag-told}
+use Rattle.context.proofs.Commands.{flag-told}
 use Rattle.context.proofs.Slices.{Sliced}
 use Rattle.on_inline.proofs.Own.{sliceIn, own}
 

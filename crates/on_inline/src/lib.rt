@@ -1,7 +1,8 @@
 // Handlers of character references, code text and autolinks, by their Rust names.
 ghost use Rattle.machine.specs.Set.{alt};
 ghost use Rattle.machine.specs.Test.{is};
-ghost use Rattle.machine.specs.Command.{_▸_, unless, put, slice, tag, url, resumeCode};
+ghost use Rattle.machine.specs.Command.{_▸_};
+ghost use Rattle.machine.specs.Words.{unless, put, slice, tag, url, resumeCode};
 ghost use Rattle.machine.specs.OnText.{onExitCharacterReferenceValue, onExitRawText, onExitAutolinkEmail, onExitAutolinkProtocol};
 ghost use Rattle.context.specs.Rel.{Any, Sees, Keeps, Takes};
 ghost use Rattle.on_inline.specs.View.{SeesWith};

@@ -7,7 +7,8 @@ use lib.ListN.{length, take, take-append-drop}
 use Rattle.event.specs.declared.Event.{Event}
 use Rattle.machine.specs.Turn.{Turn}
 use Rattle.machine.specs.Media.{Id}
-use Rattle.machine.specs.Command.{Command, identify}
+use Rattle.machine.specs.Command.{Command}
+use Rattle.machine.specs.Words.{identify}
 use Rattle.context.specs.declared.Context.{Context}
 use Rattle.context.specs.Rel.{Sets, Begins, Ends, Takes}
 use Rattle.context.proofs.Commands.{sets, begins}

@@ -13,11 +13,12 @@ use Rattle.event.specs.Event.{named}
 use Rattle.machine.specs.Outcome.{go, _>>=_, need}
 use Rattle.machine.specs.Turn.{Turn, lookBack}
 use Rattle.machine.specs.Test.{isOrdered, isLoose, isTight, isTightParagraph, isEmptyItem, tightOf, test}
-use Rattle.machine.specs.Command.{whether, put, tighten}
+use Rattle.machine.specs.Command.{whether}
+use Rattle.machine.specs.Words.{put, tighten}
+use Rattle.machine.proofs.Outcomes.{never, first-goes}
 use Rattle.context.specs.declared.Context.{Context}
 use Rattle.context.specs.Rel.{Any, Keeps, Sets, Pushes, Tells}
-use Rattle.context.proofs.Plain.{never}
-use Rattle.context.proofs.Commands.{first-goes, sets, puts, whether-yes, whether-no}
+use Rattle.context.proofs.Commands.{sets, puts, whether-yes, whether-no}
 use Rattle.on_list.specs.Lists.{IsOrdered, OpensList, LooksBack, PushesByOrder}
 
 -- ---- the list's event

@@ -16,16 +16,16 @@ use Rattle.machine.specs.Outcome.{stop, go, _>>=_}
 use Rattle.machine.specs.Buffers.{push}
 use Rattle.machine.specs.Text.{startOf}
 use Rattle.machine.specs.Turn.{Turn, spanOf, sliceOf, asStr, strOf, ownStr}
-use Rattle.machine.specs.Command.{start, exec}
+use Rattle.machine.specs.Command.{exec}
+use Rattle.machine.specs.Words.{start}
+use Rattle.machine.proofs.Outcomes.{first-goes}
 use Rattle.bounded.specs.Within.{within}
 use Rattle.bounded.proofs.Bounds.{done}
 use Rattle.buffers.specs.declared.Buffers.{Buffers}
 use Rattle.pieces.specs.Pieces.{PushesStart}
 use Rattle.context.specs.declared.Context.{Context}
 use Rattle.context.specs.Rel.{Sees, Keeps}
-use Rattle.context.proofs.Plain.{never}
 use Rattle.context.proofs.Laws.{withBuffers, rel-buffers, pushed}
-use Rattle.context.proofs.Commands.{first-goes}
 use Rattle.context.proofs.Slices.{Sliced, own-slice}
 
 module _ (text : List ℕ) (e : Event) where

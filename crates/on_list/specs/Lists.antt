@@ -10,7 +10,8 @@ use Rattle.event.specs.declared.Event.{Event}
 use Rattle.event.specs.Event.{named, isLoose}
 use Rattle.machine.specs.Turn.{Turn, lookBack}
 use Rattle.machine.specs.Test.{isOrdered}
-use Rattle.machine.specs.Command.{whether, put}
+use Rattle.machine.specs.Command.{whether}
+use Rattle.machine.specs.Words.{put}
 use Rattle.context.specs.declared.Context.{Context}
 use Rattle.context.specs.Rel.{Keeps}
 

@@ -1,6 +1,6 @@
 // Handlers of lists, by their Rust names.
 ghost use Rattle.machine.specs.Test.{isFirstMarker, isTightParagraph, isEmptyItem};
-ghost use Rattle.machine.specs.Command.{when, unless, put, start, lineEndingIfNeeded};
+ghost use Rattle.machine.specs.Words.{when, unless, put, start, lineEndingIfNeeded};
 ghost use Rattle.machine.specs.OnList.{onEnterList, onExitList, onEnterListItemMarker, onExitListItemValue, onExitListItem};
 ghost use Rattle.context.specs.Rel.{Any, Sees, Keeps, Tells};
 ghost use Rattle.on_list.specs.Lists.{IsOrdered, OpensList, LooksBack, PushesByOrder};

@@ -4,7 +4,8 @@ use mathlib.Core.Bool.{true}
 use mathlib.Core.List.{List}
 use Prim.Native.Nat.{ℕ}
 use Rattle.machine.specs.declared.Options.{Options}
-use Rattle.machine.specs.Command.{Command, _▸_, leaveImage, seekDefinition, closeMedia}
+use Rattle.machine.specs.Command.{Command, _▸_}
+use Rattle.machine.specs.Words.{leaveImage, seekDefinition, closeMedia}
 use Rattle.context.specs.Rel.{Any}
 use Rattle.links.specs.declared.Links.{Links}
 use Rattle.links.specs.Links.{Closes}

@@ -11,14 +11,14 @@ use Rattle.machine.specs.Set.{alt, setFlag}
 use Rattle.machine.specs.Turn.{Turn}
 use Rattle.machine.specs.Media.{splitMedia, newestMedia, anyImage, leaveAlt}
 use Rattle.machine.specs.Test.{Test, is, isImage, test}
-use Rattle.machine.specs.Command.{Command, nothing, whether, set, leaveImage, exec}
+use Rattle.machine.specs.Command.{Command, nothing, whether, exec}
+use Rattle.machine.specs.Words.{set, leaveImage}
+use Rattle.machine.proofs.Outcomes.{never, first-goes}
 use Rattle.bounded.specs.Within.{one, within}
 use Rattle.bounded.proofs.Bounds.{done}
 use Rattle.regions.specs.Regions.{regionAt}
 use Rattle.context.specs.declared.Context.{Context}
 use Rattle.context.specs.Rel.{Any, Sets, Tells}
-use Rattle.context.proofs.Plain.{never}
-use Rattle.context.proofs.Commands.{first-goes}
 use Rattle.links.specs.Links.{IsImage, AnyOlderImage}
 use Rattle.whole.specs.declared.Whole.{Whole}
 use Rattle.whole.specs.Whole.{World, Built, Always, Handles, Unlent, OnPage, withContext, withOut, withWork}

@@ -2,7 +2,8 @@
 ghost use Rattle.machine.specs.Set.{alt};
 ghost use Rattle.machine.specs.Media.{label, destination, title};
 ghost use Rattle.machine.specs.Test.{is, isImage};
-ghost use Rattle.machine.specs.Command.{_▸_, whether, when, unless, put, tag, leaveImage, show};
+ghost use Rattle.machine.specs.Command.{_▸_, whether};
+ghost use Rattle.machine.specs.Words.{when, unless, put, tag, leaveImage, show};
 ghost use Rattle.machine.specs.OnMedia.{onExitMedia};
 ghost use Rattle.context.specs.Rel.{Any};
 ghost use Rattle.whole.specs.Whole.{Always, Held, Unlent, OnPage};

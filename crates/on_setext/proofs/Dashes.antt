@@ -11,9 +11,9 @@ use Rattle.event.specs.declared.Event.{Event}
 use Rattle.machine.specs.Outcome.{go, _>>=_, need}
 use Rattle.machine.specs.Turn.{Turn}
 use Rattle.machine.specs.Test.{isUnderlinedByDashes, test}
+use Rattle.machine.proofs.Outcomes.{never}
 use Rattle.context.specs.declared.Context.{Context}
 use Rattle.context.specs.Rel.{Sees, Tells}
-use Rattle.context.proofs.Plain.{never}
 use Rattle.on_setext.specs.Setext.{TellsDash, Underlined}
 
 pub tells-dashes : {c : Context} {x : Bool} → Tells (Underlined x) isUnderlinedByDashes c x

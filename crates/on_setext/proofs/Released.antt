@@ -13,12 +13,13 @@ use Rattle.machine.specs.Set.{setSetext}
 use Rattle.machine.specs.Buffers.{push}
 use Rattle.machine.specs.Turn.{Turn}
 use Rattle.machine.specs.Totals.{size, mediaSizes, held}
-use Rattle.machine.specs.Command.{release, exec}
+use Rattle.machine.specs.Command.{exec}
+use Rattle.machine.specs.Words.{release}
+use Rattle.machine.proofs.Outcomes.{never}
 use Rattle.bounded.specs.Within.{within}
 use Rattle.bounded.proofs.Bounds.{done}
 use Rattle.regions.specs.Regions.{regionAt}
 use Rattle.buffers.specs.declared.Buffers.{Buffers}
-use Rattle.context.proofs.Plain.{never}
 use Rattle.context.proofs.Laws.{withBuffers}
 use Rattle.links.specs.declared.Links.{Links}
 use Rattle.links.specs.declared.Piece.{Piece}
@@ -40,7 +41,7 @@ module _ {b : Whole} {w : World} {text : List ℕ} {s : State} where
   unheld k z a y = record {
     long = y .long;
     places = y .places;
-    context = rel-alike (record { page = refl; captures = refl; flags = refl; rank = refl; seen = refl; fences = refl; marker = refl; first = refl; tight = refl; table = refl; ending = refl }) (y .context);
+    context = rel-alike (record { page = refl; captures = refl; flags = refl; rank = refl; seen = refl; fences = refl; marker = refl; first = refl; tight = refl; table = refl; fixed = refl }) (y .context);
     links = k .releases (regionAt 16384 (w .work)) s z a (y .links);
     kept = keeps-same refl refl (y .kept);
   }

@@ -1,5 +1,6 @@
 // Handlers of setext headings, by their Rust names. The text waits among the held bytes until its underline gives the rank.
-ghost use Rattle.machine.specs.Command.{_▸_, put, lineEndingIfNeeded, release};
+ghost use Rattle.machine.specs.Command.{_▸_};
+ghost use Rattle.machine.specs.Words.{put, lineEndingIfNeeded, release};
 ghost use Rattle.machine.specs.OnFlow.{setextRank, onExitHeadingSetextText, onExitHeadingSetextUnderlineSequence};
 ghost use Rattle.context.specs.Rel.{Any, Sees, Keeps};
 ghost use Rattle.whole.specs.Whole.{Always, Held, Roomy, OnWork, OnPage};

@@ -8,16 +8,18 @@ use native.Mathlib.Numerals.{add-one}
 use lib.ListN.{length, drop, getElem?, drop-of-length-le}
 use Rattle.lent.specs.Fill.{Filled}
 use Rattle.machine.specs.declared.Ending.{Ending}
+use Rattle.machine.specs.declared.Fixed.{Fixed}
 use Rattle.machine.specs.Outcome.{go}
 use Rattle.machine.specs.State.{State, Footnote, Call}
 use Rattle.machine.specs.Section.{bodyOf}
+use Rattle.machine.proofs.Outcomes.{first-goes}
 use Rattle.kept.specs.declared.Kept.{Kept}
 use Rattle.kept.proofs.Lists.{at-index}
 use Rattle.buffers.specs.Stand.{Holds}
 use Rattle.buffers.proofs.Laws.{more}
 use Rattle.section.specs.Pages.{headPage, tailText, itemPage, itemsPage}
 use Rattle.section.specs.Contracts.{WritesSection, Writes, There, WritesCall, WritesItems}
-use Rattle.section.proofs.Machine.{first-goes, section-is}
+use Rattle.section.proofs.Machine.{section-is}
 
 drop-at-index : {A : Type 0} (l : List A) (i : ℕ) (a : A) → getElem? l i ≡ some a → drop i l ≡ a ∷ drop (suc i) l
 drop-at-index [] i a p = absurd (let z : _≡_ {A = ℕ} 0 1 = cc in omega arith)
@@ -69,17 +71,17 @@ module _ {k : Kept} {ending : Ending} {text work footnotes calls : List ℕ} {ou
 
 -- ---- the section
 
-module _ {k : Kept} {ending : Ending} {text work footnotes calls d e f g : List ℕ} {at p q r : ℕ} where
-  section-holds : {s : State} (u : State) (page : List ℕ) → Writes (headPage ending) d at e p → WritesItems k ending text work footnotes calls e p f q → Filled f q (tailText ending) g r
-      → There k text work footnotes calls s → s .ending ≡ ending → itemsPage (s .ending) (s .kept .footnotes) (s .kept .calls) (headPage (s .ending) (s .page)) ≡ go page
-      → u .page ≡ page ++ tailText (s .ending) → Holds d at (s .page) → Holds g r (u .page)
+module _ {k : Kept} {fixed : Fixed} {text work footnotes calls d e f g : List ℕ} {at p q r : ℕ} where
+  section-holds : {s : State} (u : State) (page : List ℕ) → Writes (headPage (fixed .ending)) d at e p → WritesItems k (fixed .ending) text work footnotes calls e p f q → Filled f q (tailText (fixed .ending)) g r
+      → There k text work footnotes calls s → s .fixed ≡ fixed → itemsPage (s .fixed .ending) (s .kept .footnotes) (s .kept .calls) (headPage (s .fixed .ending) (s .page)) ≡ go page
+      → u .page ≡ page ++ tailText (s .fixed .ending) → Holds d at (s .page) → Holds g r (u .page)
   section-holds {s} u page x y z t same i o h =
       let i′ = rw same at i in
       let o′ = rw same at o in
-      rw o′ (more (y .writes (headPage ending (s .page)) page t i′ (x .writes (s .page) h)) z)
+      rw o′ (more (y .writes (headPage (fixed .ending) (s .page)) page t i′ (x .writes (s .page) h)) z)
 
-  pub section-put : Writes (headPage ending) d at e p → WritesItems k ending text work footnotes calls e p f q → Filled f q (tailText ending) g r → length g ≡ length d
-      → WritesSection k ending text work footnotes calls d at g r
+  pub section-put : Writes (headPage (fixed .ending)) d at e p → WritesItems k (fixed .ending) text work footnotes calls e p f q → Filled f q (tailText (fixed .ending)) g r → length g ≡ length d
+      → WritesSection k fixed text work footnotes calls d at g r
   section-put x y z l = record {
     writes = λ definitions labels s u none same long fits keeps h i.
         let (page, j, o) = section-is s none u i in

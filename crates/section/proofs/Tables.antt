@@ -15,10 +15,10 @@ use Rattle.machine.specs.State.{State, Footnote, Call}
 use Rattle.machine.specs.Footnote.{callLabels}
 use Rattle.machine.specs.Section.{footnoteAt, bodyOf}
 use Rattle.machine.specs.Totals.{kept}
+use Rattle.machine.proofs.Outcomes.{never}
 use Rattle.kept.specs.declared.Kept.{Kept}
 use Rattle.kept.specs.Kept.{column, LabelIs, Labels}
 use Rattle.kept.proofs.Lists.{index-low}
-use Rattle.kept.proofs.Labels.{stops}
 use Rattle.kept.proofs.Calls.{times-are}
 use Rattle.kept.specs.Contracts.{FindsFootnote, TellsTimes}
 use Rattle.kept.proofs.Start.{region-piece}
@@ -60,7 +60,7 @@ body-at : (fs : List Footnote) (j : ℕ) (body : List ℕ) → (need (getElem? f
 body-at fs j body p = on (getElem? fs j) refl p
   where
     on : (o : Option Footnote) → getElem? fs j ≡ o → (need o >>= λ f. go (f .body)) ≡ go body → (f : Footnote) × (getElem? fs j ≡ some f) × (f .body ≡ body)
-    on none e q = stops q
+    on none e q = never q
     on (some f) e q = (f, e, cc)
 
 module _ {ending : Ending} {label work footnotes : List ℕ} {times j at : ℕ} {d : List ℕ} where
@@ -111,7 +111,7 @@ module _ {k : Kept} {ending : Ending} {text work footnotes calls : List ℕ} {i 
 
   module _ {found : Found} (g : FindsFootnote k text from to footnotes found) where
     pub called-nothing : found ≡ Nothing → WritesCall k ending text work footnotes calls i d at d at
-    called-nothing h = record { writes = λ t p q. (let z = rw h at (body-found i a b t p g q) in stops z) }
+    called-nothing h = record { writes = λ t p q. (let z = rw h at (body-found i a b t p g q) in never z) }
 
     pub called-found : {times j r : ℕ} {f : List ℕ} → found ≡ At j → TellsTimes calls i times → WritesFound ending (take (to - from) (drop from text)) times work footnotes j d at f r
         → WritesCall k ending text work footnotes calls i d at f r

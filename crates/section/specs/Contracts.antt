@@ -8,6 +8,7 @@ use Rattle.regions.specs.Regions.{regionAt}
 use Rattle.normalize_identifier.specs.declared.Found.{Found}
 use Rattle.normalize_identifier.specs.Search.{firstSame}
 use Rattle.machine.specs.declared.Ending.{Ending}
+use Rattle.machine.specs.declared.Fixed.{Fixed}
 use Rattle.machine.specs.Outcome.{go}
 use Rattle.machine.specs.State.{State, Call}
 use Rattle.machine.specs.Section.{footnoteLabels, bodyOf, footnoteSection}
@@ -19,8 +20,8 @@ use Rattle.section.specs.Pages.{itemPage, itemsPage}
 
 -- ---- the section
 
-pub record WritesSection (k : Kept) (ending : Ending) (text work footnotes calls out : List ℕ) (at : ℕ) (out′ : List ℕ) (r : ℕ) : Type 0 where
-  pub writes : (definitions labels : List ℕ) (s u : State) → s .captures ≡ [] → s .ending ≡ ending → length work ≡ 49152 → k .end ≤ 16384
+pub record WritesSection (k : Kept) (fixed : Fixed) (text work footnotes calls out : List ℕ) (at : ℕ) (out′ : List ℕ) (r : ℕ) : Type 0 where
+  pub writes : (definitions labels : List ℕ) (s u : State) → s .captures ≡ [] → s .fixed ≡ fixed → length work ≡ 49152 → k .end ≤ 16384
       → Keeps k text (regionAt 32768 work) (tables definitions footnotes calls labels) s → Holds out at (s .page) → footnoteSection s ≡ go u
       → Holds out′ r (u .page) × (length out′ ≡ length out)
 

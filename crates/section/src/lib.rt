@@ -11,12 +11,13 @@ ghost use Rattle.section.specs.Pages.{ended, headingText, headPage, tail
 ghost use Rattle.section.specs.Contracts.{WritesSection, Writes, WritesFound, WritesCall, WritesItems};
 use kept::Kept;
 use machine::Ending;
+use machine::Fixed;
 use normalize_identifier::Found;
 
 // Writes the section behind the page that stands in `out` up to `at`.
 pub fn footnote_section(
     k: Kept,
-    ending: Ending,
+    fixed: Fixed,
     text: &[u8],
     work: &[u8],
     footnotes: &[usize],
@@ -24,8 +25,9 @@ pub fn footnote_section(
     out: &mut [u8],
     at: usize,
 ) -> usize
-    ensures { λ r. ⌜ WritesSection k ending (now (text .entry)) (now (work .entry)) (now (footnotes .entry)) (now (calls .entry)) (now (out .entry)) at (now (out .exit)) r ⌝ }
+    ensures { λ r. ⌜ WritesSection k fixed (now (text .entry)) (now (work .entry)) (now (footnotes .entry)) (now (calls .entry)) (now (out .entry)) at (now (out .exit)) r ⌝ }
 {
+    let ending = fixed.ending;
     let p = put_head(ending, out, at);
     let q = put_items(k, ending, text, work, footnotes, calls, out, p);
     put_tail(ending, out, q)

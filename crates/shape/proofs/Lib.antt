@@ -6,6 +6,7 @@ pub mod Media
 pub mod Writes
 pub mod Parts
 pub mod Notes
+pub mod Steps
 pub mod Ways
 pub mod Sound
 pub mod Test

@@ -14,7 +14,8 @@ use Rattle.machine.specs.Buffers.{_▹_, push}
 use Rattle.machine.specs.Turn.{Turn, spanOf, strOf}
 use Rattle.machine.specs.Media.{ownOf, define}
 use Rattle.machine.specs.Footnote.{addressOf, splitLabels, keep, callIndex, countAt, timesAt, callText, callNote}
-use Rattle.machine.specs.Command.{keepDefinition, footnoteLabel, keepFootnote, call, exec}
+use Rattle.machine.specs.Command.{exec}
+use Rattle.machine.specs.Words.{keepDefinition, footnoteLabel, keepFootnote, call}
 use Rattle.shape.specs.Facts.{isSet, ofTop}
 use Rattle.shape.specs.Shape.{Rel, idle}
 use Rattle.shape.specs.Acts.{withCaptures, withLabels, popped, up1, down1}

@@ -15,7 +15,8 @@ use Rattle.machine.specs.Turn.{Turn, spanOf}
 use Rattle.machine.specs.Totals.{size}
 use Rattle.machine.specs.Media as M
 use Rattle.machine.specs.Media.{newMedia, splitMedia, newestMedia, onNewest, Part, withPart, withId, anyImage, leaveAlt, labelOf, destinationOf, seek, partText, ownOf}
-use Rattle.machine.specs.Command.{openMedia, closeMedia, store, emptyDestination, identify, leaveImage, seekDefinition, show, exec}
+use Rattle.machine.specs.Command.{exec}
+use Rattle.machine.specs.Words.{openMedia, closeMedia, store, emptyDestination, identify, leaveImage, seekDefinition, show}
 use Rattle.bounded.specs.Within.{ofNewest, partsFrom, newestIsBare}
 use Rattle.shape.specs.Facts.{isSet, mediaFacts, ofTop, pointsTo, defined?}
 use Rattle.shape.specs.Shape.{Say, over, changed, Shape, Rel, idle}
@@ -24,7 +25,7 @@ use Rattle.shape.specs.Right.{Goes, Right}
 use Rattle.shape.proofs.Says.{passed, mean-after}
 use Rattle.shape.proofs.Rel.{media-same, rel-idle}
 use Rattle.shape.proofs.Done.{Done, done-bind, done-take, done-newest, rel-flags, done-push, done-set}
-use Rattle.shape.proofs.Media.{media-open, media-gone, label-set, destination-set, title-set, destination-empty, labelId-set, referenceId-set, destination-found, leads, written-label, written-destination, written-title}
+use Rattle.shape.proofs.Media.{media-open, media-gone, label-set, destination-set, title-set, destination-empty, labelId-set, referenceId-set, destination-found, leads}
 use Rattle.shape.proofs.Writes.{taken, with-order}
 
 abbrev Top : State → Type 0
@@ -78,22 +79,6 @@ module _ (t : Turn) (s : State) where
         (done-bind true (newest (7 ∷ []) (3 ∷ 8 ∷ 9 ∷ [])) s (destinationOf (s .kept .definitions) (m .destination) (q .0)) (λ d. onNewest (setDestination d) s) (q .2 .0) (q .2 .1)
         (on-newest (newest (7 ∷ []) (3 ∷ 8 ∷ 9 ∷ [])) (setDestination (q .2 .0))
         (λ n ns i. destination-found s n ns i (q .2 .0) (leads (s .kept .definitions) (m .destination) (q .0) (q .2 .0) (top (λ m. pointsTo (defined? s) (m .destination)) s m ms e p) (q .2 .1))))))
-
-    shown : (part : Part) → ((m : Media) (ms : List Media) → s .media ≡ m ∷ ms → Goes (partText part (t .options) (s .kept .definitions) m)) → Done (exec (show part) t s) true idle s
-    unfolding exec
-    shown part k =
-        done-newest true idle s (λ (m, ms). partText part (t .options) (s .kept .definitions) m >>= λ b. go (push b s)) h
-        (λ m ms e. let q = k m ms e in
-        done-bind true idle s (partText part (t .options) (s .kept .definitions) m) (λ b. go (push b s)) (q .0) (q .1) (done-push idle (q .0) s s (rel-idle s) refl))
-
-    pub done-show-label : T (ofTop (λ m. isSet (m .label)) (s .media)) → Done (exec (show M.label) t s) true idle s
-    done-show-label q = shown M.label (λ m ms e. written-label (t .options) (s .kept .definitions) m (top (λ m. isSet (m .label)) s m ms e q))
-
-    pub done-show-destination : T (ofTop (λ m. pointsTo (defined? s) (m .destination)) (s .media)) → Done (exec (show M.destination) t s) true idle s
-    done-show-destination q = shown M.destination (λ m ms e. written-destination (t .options) (s .kept .definitions) m (top (λ m. pointsTo (defined? s) (m .destination)) s m ms e q))
-
-    pub done-show-title : T (ofTop (λ m. pointsTo (defined? s) (m .destination)) (s .media)) → Done (exec (show M.title) t s) true idle s
-    done-show-title q = shown M.title (λ m ms e. written-title (t .options) (s .kept .definitions) m (top (λ m. pointsTo (defined? s) (m .destination)) s m ms e q))
 
     -- a capture is stored
     stored : (part : Part) (xs : List Say) → 1 ≤ length (s .captures) → ((b : List ℕ) (m : Media) (ms : List Media) → s .media ≡ m ∷ ms → Rel (withMedia changed xs idle) s (setMedia (withPart part b m ∷ ms) s)) → Done (exec (store part) t s) true (withCaptures down1 (withMedia changed xs idle)) s

@@ -13,7 +13,7 @@ use Rattle.nesting.specs.Grammar.{nameOf, holds, whole}
 use Rattle.nesting.specs.Nests.{Takes}
 use Rattle.rules.specs.Elements.{Forest, listOf, Pair}
 use Rattle.machine.specs.declared.Options.{Options}
-use Rattle.machine.specs.declared.Ending.{Ending}
+use Rattle.machine.specs.declared.Fixed.{Fixed}
 use Rattle.machine.specs.State.{State, start}
 use Rattle.machine.specs.Turn.{Turn}
 use Rattle.machine.specs.Run.{passFrom, turnsOf}
@@ -60,17 +60,17 @@ between-stays s u h r =
       low = low 0 0 (contractOf 53 .does) s u stays-low r (h .low);
     }
 
-between-start : (ending : Ending) → Between (start ending)
+between-start : (fixed : Fixed) → Between (start fixed)
 unfolding contractOf lines start
-between-start ending =
+between-start fixed =
     record {
       ready-for = record { captures = omega arith; tight = omega arith; labels = omega arith; waits = (tt, (tt, (tt, (tt, (tt, (tt, (tt, (tt, (tt, (tt, (tt, tt))))))))))); media = (tt, (tt, (tt, (tt, (tt, (tt, (tt, (tt, (tt, (tt, tt)))))))))) };
       low = record { captures = omega arith; tight = omega arith; media = omega arith; labels = omega arith };
     }
 
-few-start : (ending : Ending) → Few (start ending .kept)
+few-start : (fixed : Fixed) → Few (start fixed .kept)
 unfolding start
-few-start ending = record { definitions = omega arith; footnotes = omega arith; calls = omega arith; times = refl }
+few-start fixed = record { definitions = omega arith; footnotes = omega arith; calls = omega arith; times = refl }
 
 -- ---- the passes: Out is kept outside of definitions in the first, In inside one that begins at p₀, and Inv in the second
 
@@ -172,12 +172,12 @@ module _ (text : List ℕ) (o : Options) (Out Inv : ℕ → List Event → List 
           (u, ends u, record { between = between-stays s u h d; few = w₁; place = placed f 0; before = behind f []; after = i₁ }))
 
       -- the whole run, from one pass to the other
-      pub all-turns : (es : List Event) (ending : Ending) → Planted es → Out 0 [] es (start ending)
+      pub all-turns : (es : List Event) (fixed : Fixed) → Planted es → Out 0 [] es (start fixed)
           → ((p : ℕ) (before : List Event) (u : State) → Between u → Out p before [] u → Inv 0 [] es u)
-          → (v : State) × Goes (turnsOf text o es) (start ending) v × Rests v
+          → (v : State) × Goes (turnsOf text o es) (start fixed) v × Rests v
       unfolding turnsOf passFrom
-      all-turns es ending g i over =
-          let q : (v : State) × Goes (passFrom true text o false 0 [] (listOf (g .forest) []) ++ (passFrom false text o false 0 [] (listOf (g .forest) []) ++ [])) (start ending) v × Rests v =
-          first (g .kinds) (loose-whole (g .takes)) (g .shallow) 0 [] [] (passFrom false text o false 0 [] (listOf (g .forest) []) ++ []) (start ending)
-          (λ u h w j. second (g .kinds) (g .takes) (g .shallow) u h w (rw (g .same) at (over (placed (g .forest) 0) (behind (g .forest) []) u h j))) (between-start ending) (few-start ending) (rw (g .same) at i) in
+      all-turns es fixed g i over =
+          let q : (v : State) × Goes (passFrom true text o false 0 [] (listOf (g .forest) []) ++ (passFrom false text o false 0 [] (listOf (g .forest) []) ++ [])) (start fixed) v × Rests v =
+          first (g .kinds) (loose-whole (g .takes)) (g .shallow) 0 [] [] (passFrom false text o false 0 [] (listOf (g .forest) []) ++ []) (start fixed)
+          (λ u h w j. second (g .kinds) (g .takes) (g .shallow) u h w (rw (g .same) at (over (placed (g .forest) 0) (behind (g .forest) []) u h j))) (between-start fixed) (few-start fixed) (rw (g .same) at i) in
           rw (append-nil, ← g .same) at q

@@ -11,7 +11,7 @@ use Rattle.nesting.specs.Grammar.{Item, one, opt, any, chain}
 use Rattle.nesting.specs.Nests.{Takes, nothing, one-taken, opt-none, opt-taken, any-none, any-taken, chain-none, chain-taken}
 use Rattle.rules.proofs.Before.{clash}
 use Rattle.shape.specs.Shape.{Shape, seq, covers}
-use Rattle.shape.specs.Fits.{small, meets, step, every, through, goodChain, good}
+use Rattle.shape.specs.Fits.{small, meets, steps, every, through, goodChain, good}
 use Rattle.shape.specs.Kinds.{contractOf}
 use Rattle.shape.proofs.Says.{both, each}
 
@@ -53,7 +53,7 @@ module _ (R : Shape → State → State → Type 0) (less : (x y : Shape) (b s :
     Good [] x = T (good contractOf n [] x f)
     Good (one ks ∷ items) x = T (good contractOf n (one ks ∷ items) x f)
     Good (opt ks ∷ items) x = T (good contractOf n (opt ks ∷ items) x f)
-    Good (any ks ∷ items) x = (w : Shape) × Weaker x w × T (every (λ k. step n w (contractOf k) (λ y. covers y w)) ks) × T (good contractOf n items w f)
+    Good (any ks ∷ items) x = (w : Shape) × Weaker x w × T (every (λ k. steps n w (contractOf k) (λ y. covers y w)) ks) × T (good contractOf n items w f)
     Good (chain ks ∷ items) x = T (good contractOf n (chain ks ∷ items) x f)
 
     good-as : (items : List Item) (x : Shape) → T (good contractOf n items x f) → Good items x
@@ -62,7 +62,7 @@ module _ (R : Shape → State → State → Type 0) (less : (x y : Shape) (b s :
     good-as (one ks ∷ items) x t = t
     good-as (opt ks ∷ items) x t = t
     good-as (any ks ∷ items) x t =
-        let p = each (covers x (through contractOf n ks x) ∷ every (λ k. step n (through contractOf n ks x) (contractOf k) (λ y. covers y (through contractOf n ks x))) ks ∷ good contractOf n items (through contractOf n ks x) f ∷ []) t in
+        let p = each (covers x (through contractOf n ks x) ∷ every (λ k. steps n (through contractOf n ks x) (contractOf k) (λ y. covers y (through contractOf n ks x))) ks ∷ good contractOf n items (through contractOf n ks x) f ∷ []) t in
         (through contractOf n ks x, covered x (through contractOf n ks x) (p .0), p .1 .0, p .1 .1 .0)
     good-as (chain ks ∷ items) x t = t
 
@@ -70,7 +70,7 @@ module _ (R : Shape → State → State → Type 0) (less : (x y : Shape) (b s :
     Found ks x = (y : Shape) × Walk n ks x y × T (f y)
 
     -- one child
-    taken : (k : ℕ) (ks : List ℕ) (x w : Shape) (g : Shape → Bool) → Weaker x w → T (step n w (contractOf k) g) → (T (g (seq w (contractOf k .does))) → Found ks (seq w (contractOf k .does))) → Found (k ∷ ks) x
+    taken : (k : ℕ) (ks : List ℕ) (x w : Shape) (g : Shape → Bool) → Weaker x w → T (steps n w (contractOf k) g) → (T (g (seq w (contractOf k .does))) → Found ks (seq w (contractOf k .does))) → Found (k ∷ ks) x
     taken k ks x w g i t more =
         let p = each (meets w (contractOf k) ∷ small n (seq w (contractOf k .does)) ∷ g (seq w (contractOf k .does)) ∷ []) t in
         let r = more (p .1 .1 .0) in
@@ -78,23 +78,23 @@ module _ (R : Shape → State → State → Type 0) (less : (x y : Shape) (b s :
 
     chain-end : (ks : List ℕ) (g : Shape → Bool) (x : Shape) → T (goodChain contractOf n ks g x) → T (g x)
     chain-end [] g x t = t
-    chain-end (k ∷ ks) g x t = both (g x) (step n x (contractOf k) (goodChain contractOf n ks g)) t .0
+    chain-end (k ∷ ks) g x t = both (g x) (steps n x (contractOf k) (goodChain contractOf n ks g)) t .0
 
     walks : {items : List Item} {ks : List ℕ} → Takes items ks → (x : Shape) → Good items x → Found ks x
     unfolding good
     walks nothing x t = (x, λ b s h. h, t)
     walks (one-taken {k} {ks} {cs} {is = items} m r) x t =
-        taken k cs x x (λ y. good contractOf n items y f) (λ b s h. h) (every-at (λ k. step n x (contractOf k) (λ y. good contractOf n items y f)) ks k m t) (λ u. walks r (seq x (contractOf k .does)) (good-as items (seq x (contractOf k .does)) u))
+        taken k cs x x (λ y. good contractOf n items y f) (λ b s h. h) (every-at (λ k. steps n x (contractOf k) (λ y. good contractOf n items y f)) ks k m t) (λ u. walks r (seq x (contractOf k .does)) (good-as items (seq x (contractOf k .does)) u))
     walks (opt-none {ks} {is = items} r) x t =
-        walks r x (good-as items x (both (good contractOf n items x f) (every (λ k. step n x (contractOf k) (λ y. good contractOf n items y f)) ks) t .0))
+        walks r x (good-as items x (both (good contractOf n items x f) (every (λ k. steps n x (contractOf k) (λ y. good contractOf n items y f)) ks) t .0))
     walks (opt-taken {k} {ks} {cs} {is = items} m r) x t =
-        taken k cs x x (λ y. good contractOf n items y f) (λ b s h. h) (every-at (λ k. step n x (contractOf k) (λ y. good contractOf n items y f)) ks k m (both (good contractOf n items x f) (every (λ k. step n x (contractOf k) (λ y. good contractOf n items y f)) ks) t .1)) (λ u. walks r (seq x (contractOf k .does)) (good-as items (seq x (contractOf k .does)) u))
+        taken k cs x x (λ y. good contractOf n items y f) (λ b s h. h) (every-at (λ k. steps n x (contractOf k) (λ y. good contractOf n items y f)) ks k m (both (good contractOf n items x f) (every (λ k. steps n x (contractOf k) (λ y. good contractOf n items y f)) ks) t .1)) (λ u. walks r (seq x (contractOf k .does)) (good-as items (seq x (contractOf k .does)) u))
     walks (any-none {cs} {is = items} r) x (w, i, e, t) = let q = walks r w (good-as items w t) in (q .0, walk-weak n cs x w (q .0) i (q .1), q .2)
     walks (any-taken {k} {ks} {cs} m r) x (w, i, e, t) =
-        taken k cs x w (λ y. covers y w) i (every-at (λ k. step n w (contractOf k) (λ y. covers y w)) ks k m e) (λ u. walks r (seq w (contractOf k .does)) (w, covered (seq w (contractOf k .does)) w u, e, t))
+        taken k cs x w (λ y. covers y w) i (every-at (λ k. steps n w (contractOf k) (λ y. covers y w)) ks k m e) (λ u. walks r (seq w (contractOf k .does)) (w, covered (seq w (contractOf k .does)) w u, e, t))
     walks (chain-none {ks} {is = items} r) x t = walks r x (good-as items x (chain-end ks (λ y. good contractOf n items y f) x t))
     walks (chain-taken {k} {ks} {cs} {is = items} r) x t =
-        taken k cs x x (goodChain contractOf n ks (λ y. good contractOf n items y f)) (λ b s h. h) (both (good contractOf n items x f) (step n x (contractOf k) (goodChain contractOf n ks (λ y. good contractOf n items y f))) t .1) (λ u. walks r (seq x (contractOf k .does)) u)
+        taken k cs x x (goodChain contractOf n ks (λ y. good contractOf n items y f)) (λ b s h. h) (both (good contractOf n items x f) (steps n x (contractOf k) (goodChain contractOf n ks (λ y. good contractOf n items y f))) t .1) (λ u. walks r (seq x (contractOf k .does)) u)
 
     pub takes-walk : {items : List Item} {ks : List ℕ} → Takes items ks → (x : Shape) → T (good contractOf n items x f) → Found ks x
     takes-walk {items} r x t = walks r x (good-as items x t)

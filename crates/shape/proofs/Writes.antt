@@ -1,49 +1,75 @@
 -- Commands that write, and those that open, drop or pour a capture. Assumes nothing.
 use mathlib.Core.Path.{_≡_, refl, ap}
-use mathlib.Core.Bool.{Bool, true, false}
+use mathlib.Core.Bool.{Bool, true}
 use mathlib.Core.List.{List, [], _∷_, _++_}
-use mathlib.Core.Option.{none, some}
+use mathlib.Core.Option.{Option, none, some}
 use Prim.Native.Nat.{ℕ, _+_, _≤_}
 use Prim.Native.String.{String}
 use native.Mathlib.Omega.{arith}
 use lib.Dec.{T, eqb, eqb→eq}
 use borrow.Author.Tests.{eq-eqb}
-use lib.ListN.{length, getElem?, replicate}
-use Rattle.lent.specs.Bytes.{if_then_else_, bytes}
+use lib.ListN.{length, getElem?}
+use Rattle.lent.specs.Bytes.{bytes}
 use Rattle.character_reference.specs.Reference.{referenceOf}
 use Rattle.machine.specs.Outcome.{Outcome, go, _>>=_, need}
-use Rattle.machine.specs.State.{State}
+use Rattle.machine.specs.State.{State, Media}
 use Rattle.machine.specs.Set.{setCaptures, setSetext, setMarker}
-use Rattle.machine.specs.Buffers.{push, pushEncoded, isEol, lastOr, newestOf, openCapture, endingBytes, endLine, endLineIfNeeded}
-use Rattle.machine.specs.Turn.{Turn, asStr, ownStr, urlOf}
-use Rattle.machine.specs.Text.{decimal, startOf, alignText, codeOf}
+use Rattle.machine.specs.Buffers.{push, pushEncoded, openCapture}
+use Rattle.machine.specs.Turn.{Turn, asStr, ownStr}
+use Rattle.machine.specs.Text.{decimal, alignText, codeOf}
+use Rattle.machine.specs.Media.{newestMedia, splitMedia, Part, label, destination, title, partText}
 use Rattle.machine.specs.Totals.{size, mediaSizes, held}
-use Rattle.machine.specs.Command.{slice, chunk, reference, url, rank, start, alignment, lineEnding, lineEndingIfNeeded, put, buffer, drop, resume, resumeCode, hold, release, exec}
-use Rattle.shape.specs.Facts.{isSet, isWithin}
+use Rattle.machine.specs.Command.{write, Source, given, made, rank, start, alignment, part, givenText, madeOf, textOf, perform, exec}
+use Rattle.machine.specs.Words.{reference, buffer, drop, resume, resumeCode, hold, release}
+use Rattle.shape.specs.Facts.{isSet, ofTop}
 use Rattle.shape.specs.Shape.{Shape, Moved, Rel, idle}
-use Rattle.shape.specs.Acts.{withCaptures, waiting, up1, down1}
-use Rattle.shape.specs.Right.{Goes, Right}
+use Rattle.shape.specs.Acts.{Ready, act, withCaptures, waiting, up1, down1}
+use Rattle.shape.specs.Right.{Goes, Told, Right}
 use Rattle.shape.proofs.Says.{passed}
 use Rattle.shape.proofs.Rel.{rel-idle}
 use Rattle.shape.proofs.Done.{Done, done-bind, done-need, done-take, rel-captures, done-push, done-encoded, done-set}
 use Rattle.shape.proofs.Waits.{setext-set, setext-none, marker-none, aligned}
+use Rattle.shape.proofs.Media.{written-label, written-destination, written-title}
 
 -- ---- writing
 
+said : {A : Type 0} (o : Outcome A) (f : A → List ℕ) → Goes o → Goes (o >>= λ a. go (f a))
+said {A} o f r = (f (r .0), ap (λ (x : Outcome A). x >>= λ a. go (f a)) (r .1))
+
+set : {A : Type 0} (o : Option A) (f : A → Outcome (List ℕ)) → T (isSet o) → ((a : A) → o ≡ some a → Goes (f a)) → Goes (need o >>= f)
+set none f h k = absurd h
+set (some a) f h k = k a refl
+
+topped : (s : State) (f : Media × List Media → Outcome (List ℕ)) → T (ofTop (λ m. true) (s .media)) → ((m : Media) (ms : List Media) → s .media ≡ m ∷ ms → Goes (f (m, ms))) → Goes (newestMedia s >>= f)
+unfolding newestMedia
+topped s f h k = at (s .media) refl h
+  where
+    at : (ms : List Media) → s .media ≡ ms → T (ofTop (λ m. true) ms) → Goes (splitMedia ms >>= f)
+    at [] e h = absurd h
+    at (m ∷ ms) e h = k m ms e
+
 module _ (t : Turn) (s : State) where
-  pub done-put : (text : String) → Done (exec (put text) t s) true idle s
-  unfolding exec
-  done-put text = done-push idle (bytes text) s s (rel-idle s) refl
+  part-goes : (p : Part) → Ready (act (write (part p))) s → Goes (textOf (part p) t s)
+  unfolding act
+  part-goes label q = topped s (λ (m, ms). partText label (t .options) (s .kept .definitions) m) (q .media .0) (λ m ms e. written-label (t .options) (s .kept .definitions) m (rw e at (q .media .1 .1 .0)))
+  part-goes destination q = topped s (λ (m, ms). partText destination (t .options) (s .kept .definitions) m) (q .media .0) (λ m ms e. written-destination (t .options) (s .kept .definitions) m (rw e at (q .media .1 .1 .1 .1 .1 .1 .1 .0)))
+  part-goes title q = topped s (λ (m, ms). partText title (t .options) (s .kept .definitions) m) (q .media .0) (λ m ms e. written-title (t .options) (s .kept .definitions) m (rw e at (q .media .1 .1 .1 .1 .1 .1 .1 .0)))
 
-  pub done-slice : Goes (ownStr t) → Done (exec slice t s) true idle s
-  unfolding exec
-  done-slice r = done-bind true idle s (ownStr t) (λ b. go (pushEncoded b s)) (r .0) (r .1) (done-encoded idle (r .0) s s (rel-idle s) refl)
+  -- there is a text
+  text-goes : (x : Source) → Ready (act (write x)) s → Told x t → Goes (textOf x t s)
+  unfolding act
+  text-goes (given x) q r = (givenText x s, refl)
+  text-goes (made x) q r = said (ownStr t) (madeOf x t s) r
+  text-goes rank q r = set (s .waiting .rank) (λ n. go (decimal n)) (q .waits .0) (λ n e. (decimal n, refl))
+  text-goes start q r = r
+  text-goes alignment q r =
+      let a = aligned (s .table) (q .waits .1 .1 .1 .1 .1 .1 .1 .1 .1 .0) in
+      set (s .table .aligns) (λ aligns. need (getElem? aligns (s .table .column)) >>= λ a. go (alignText a)) (a .0)
+      (λ xs e. set (getElem? xs (s .table .column)) (λ a. go (alignText a)) (a .1 xs e) (λ x p. (alignText x, refl)))
+  text-goes (part p) q r = part-goes p q
 
-  pub done-chunk : Goes (ownStr t) → Done (exec chunk t s) true idle s
-  unfolding exec
-  done-chunk r =
-      done-bind true idle s (ownStr t) (λ b. go (pushEncoded (replicate (t .event .before) 32 ++ b ++ replicate (t .event .after) 32) s)) (r .0) (r .1)
-      (done-encoded idle (replicate (t .event .before) 32 ++ r .0 ++ replicate (t .event .after) 32) s s (rel-idle s) refl)
+  pub done-write : (x : Source) → Ready (act (write x)) s → Told x t → Done (perform (write x) t s) true idle s
+  done-write x q r = let g = text-goes x q r in done-bind true idle s (textOf x t s) (λ b. go (push b s)) (g .0) (g .1) (done-push idle (g .0) s s (rel-idle s) refl)
 
   pub done-reference : T (isSet (s .waiting .marker)) → Right reference t s → Done (exec reference t s) true (waiting (10 ∷ []) (5 ∷ [])) s
   unfolding exec Right
@@ -53,40 +79,6 @@ module _ (t : Turn) (s : State) where
       done-bind true (waiting (10 ∷ []) (5 ∷ [])) s (ownStr t) (λ b. need (referenceOf m b) >>= λ c. go (pushEncoded c (setMarker none s))) (q .0) (q .1)
       (done-bind true (waiting (10 ∷ []) (5 ∷ [])) s (need (referenceOf m (q .0))) (λ c. go (pushEncoded c (setMarker none s))) (q .2) (ap need (q .3))
       (done-encoded (waiting (10 ∷ []) (5 ∷ [])) (q .2) s (setMarker none s) (marker-none s) refl)))
-
-  pub done-url : (scheme : String) → Goes (ownStr t) → Done (exec (url scheme) t s) true idle s
-  unfolding exec
-  done-url scheme r =
-      done-bind true idle s (ownStr t) (λ b. go (push (urlOf (t .options) false (bytes scheme ++ b)) s)) (r .0) (r .1)
-      (done-push idle (urlOf (t .options) false (bytes scheme ++ r .0)) s s (rel-idle s) refl)
-
-  pub done-rank : T (isSet (s .waiting .rank)) → Done (exec rank t s) true idle s
-  unfolding exec
-  done-rank h = done-need true idle s (s .waiting .rank) (λ n. go (push (decimal n) s)) h (λ n e. done-push idle (decimal n) s s (rel-idle s) refl)
-
-  pub done-start : Goes (ownStr t >>= startOf) → Done (exec start t s) true idle s
-  unfolding exec
-  done-start r = done-bind true idle s (ownStr t >>= startOf) (λ b. go (push b s)) (r .0) (r .1) (done-push idle (r .0) s s (rel-idle s) refl)
-
-  pub done-alignment : T (isWithin (s .table)) → Done (exec alignment t s) true idle s
-  unfolding exec
-  done-alignment h =
-      let a = aligned (s .table) h in
-      done-need true idle s (s .table .aligns) (λ aligns. need (getElem? aligns (s .table .column)) >>= λ a. go (push (alignText a) s)) (a .0)
-      (λ xs e. done-need true idle s (getElem? xs (s .table .column)) (λ a. go (push (alignText a) s)) (a .1 xs e)
-      (λ x p. done-push idle (alignText x) s s (rel-idle s) refl))
-
-  pub done-line : Done (exec lineEnding t s) true idle s
-  unfolding exec endLine
-  done-line = done-push idle (endingBytes (s .ending)) s s (rel-idle s) refl
-
-  pub done-line-if : Done (exec lineEndingIfNeeded t s) true idle s
-  unfolding exec endLine endLineIfNeeded
-  done-line-if = on (isEol (lastOr 10 (newestOf (s .page) (s .captures))))
-    where
-      on : (x : Bool) → Done (go (if x then s else push (endingBytes (s .ending)) s)) true idle s
-      on true = done-set idle s s (rel-idle s) refl
-      on false = done-push idle (endingBytes (s .ending)) s s (rel-idle s) refl
 
 -- ---- captures
 

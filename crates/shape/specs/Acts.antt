@@ -5,7 +5,7 @@ use Prim.Native.Nat.{ℕ, _≤_}
 use lib.ListN.{length}
 use Rattle.machine.specs.State.{State}
 use Rattle.machine.specs.Media as M
-use Rattle.machine.specs.Command.{Command, _▸_, whether, nothing, put, slice, chunk, reference, url, rank, start, alignment, lineEnding, lineEndingIfNeeded, buffer, drop, resume, resumeCode, hold, release, set, tighten, loosen, keepRank, forgetRank, seenData, fences, countFence, marker, first, columns, noColumns, nextColumn, firstColumn, openMedia, closeMedia, store, emptyDestination, identify, leaveImage, seekDefinition, show, keepDefinition, footnoteLabel, keepFootnote, call, missingCells}
+use Rattle.machine.specs.Command.{Step, write, capture, setext, mode, wait, column, medium, retain, Source, given, made, rank, start, alignment, part, Capture, buffer, drop, resume, resumeCode, Setext, hold, release, Mode, set, leaveImage, tighten, loosen, Wait, keepRank, forgetRank, seenData, fences, countFence, marker, reference, first, Column, columns, noColumns, nextColumn, firstColumn, Medium, openMedia, closeMedia, store, emptyDestination, identify, seekDefinition, Keep, keepDefinition, footnoteLabel, keepFootnote, call}
 use Rattle.shape.specs.Facts.{waitFacts, mediaFacts}
 use Rattle.shape.specs.Shape.{Say, sure, lost, Moves, moves, Stack, changed, over, gone, Shape, Mean, all, ats, keepAll, idle}
 
@@ -69,59 +69,76 @@ down1 = moves 1 0
 abbrev pub up1 : Moves
 up1 = moves 0 1
 
--- ---- the commands that are not made of others; the facts are those of Facts.antt
+-- ---- steps, by groups; the facts are those of Facts.antt
 
-unfoldable pub act : Command → Contract
-act nothing = does idle
-act (put text) = does idle
-act slice = does idle
-act chunk = does idle
-act reference = contract (5 ∷ []) [] (waiting (10 ∷ []) (5 ∷ []))
-act (url scheme) = does idle
-act rank = contract (0 ∷ []) [] idle
-act start = does idle
-act alignment = contract (9 ∷ []) [] idle
-act lineEnding = does idle
-act lineEndingIfNeeded = does idle
-act buffer = does (withCaptures up1 idle)
-act drop = does (withCaptures down1 idle)
-act (resume before after) = does (withCaptures down1 idle)
-act resumeCode = does (withCaptures down1 idle)
-act hold = contract (2 ∷ []) (9 ∷ []) (withCaptures down1 (waiting (1 ∷ []) (2 ∷ [])))
-act release = contract (1 ∷ []) (9 ∷ []) (waiting (2 ∷ []) (1 ∷ []))
-act (set flag v) = does idle
-act (tighten v) = does (withTight up1 idle)
-act loosen = does (withTight down1 idle)
-act keepRank = does (waiting (0 ∷ []) [])
-act forgetRank = does (waiting [] (0 ∷ []))
-act (seenData none) = does (waiting [] (3 ∷ []))
-act (seenData (some v)) = does (waiting (3 ∷ []) [])
-act (fences none) = does (waiting [] (4 ∷ []))
-act (fences (some n)) = does (waiting (4 ∷ []) [])
-act countFence = contract (4 ∷ []) [] (waiting (4 ∷ []) [])
-act (marker m) = does (waiting (5 ∷ []) (10 ∷ []))
-act (first v) = does (waiting (6 ∷ []) [])
-act columns = does (waiting (7 ∷ []) (8 ∷ 9 ∷ []))
-act noColumns = does (waiting [] (7 ∷ 8 ∷ 9 ∷ []))
-act nextColumn = does (waiting [] (8 ∷ 9 ∷ []))
-act firstColumn = does (waiting [] (8 ∷ 9 ∷ []))
-act (openMedia image) = contract [] (8 ∷ []) (withMedia over (turns (0 ∷ 1 ∷ 3 ∷ 4 ∷ 7 ∷ 8 ∷ []) (2 ∷ 5 ∷ 6 ∷ 9 ∷ [])) idle)
-act closeMedia = contract [] (0 ∷ []) popped
-act (store M.label) = contract [] (0 ∷ 1 ∷ 3 ∷ 4 ∷ []) (withCaptures down1 (newest (2 ∷ []) (1 ∷ 8 ∷ 9 ∷ [])))
-act (store M.destination) = contract [] (0 ∷ 3 ∷ 4 ∷ []) (withCaptures down1 (newest (7 ∷ []) (3 ∷ 8 ∷ 9 ∷ [])))
-act (store M.title) = contract [] (0 ∷ 4 ∷ []) (withCaptures down1 (newest [] (4 ∷ 8 ∷ 9 ∷ [])))
-act emptyDestination = contract [] (0 ∷ 3 ∷ []) (newest (3 ∷ 7 ∷ []) (8 ∷ 9 ∷ []))
-act (identify M.labelId) = contract [] (0 ∷ []) (newest (5 ∷ []) (8 ∷ []))
-act (identify M.referenceId) = contract [] (0 ∷ []) (newest (6 ∷ []) (8 ∷ []))
-act leaveImage = contract [] (0 ∷ []) idle
-act seekDefinition = contract [] (0 ∷ 7 ∷ []) (newest (7 ∷ []) (3 ∷ 8 ∷ 9 ∷ []))
-act (show M.label) = contract [] (0 ∷ 2 ∷ []) idle
-act (show M.destination) = contract [] (0 ∷ 7 ∷ []) idle
-act (show M.title) = contract [] (0 ∷ 7 ∷ []) idle
-act keepDefinition = contract [] (0 ∷ 6 ∷ []) popped
-act footnoteLabel = does (withLabels up1 idle)
-act keepFootnote = does (withCaptures down1 (withLabels down1 idle))
-act call = contract [] (0 ∷ 5 ∷ []) popped
-act (c ▸ d) = does idle
-act (whether q c d) = does idle
-act (missingCells c) = does idle
+-- what waits, and what is known of the newest medium: all that a text to be written asks for
+abbrev pub asksOf : Source → List ℕ × List ℕ
+asksOf (given x) = ([], [])
+asksOf (made x) = ([], [])
+asksOf rank = (0 ∷ [], [])
+asksOf start = ([], [])
+asksOf alignment = (9 ∷ [], [])
+asksOf (part M.label) = ([], 0 ∷ 2 ∷ [])
+asksOf (part M.destination) = ([], 0 ∷ 7 ∷ [])
+asksOf (part M.title) = ([], 0 ∷ 7 ∷ [])
+
+abbrev pub capturesBy : Capture → Moves
+capturesBy buffer = up1
+capturesBy drop = down1
+capturesBy (resume before after) = down1
+capturesBy resumeCode = down1
+
+abbrev pub holds : Setext → Contract
+holds hold = contract (2 ∷ []) (9 ∷ []) (withCaptures down1 (waiting (1 ∷ []) (2 ∷ [])))
+holds release = contract (1 ∷ []) (9 ∷ []) (waiting (2 ∷ []) (1 ∷ []))
+
+abbrev pub modes : Mode → Contract
+modes (set flag v) = does idle
+modes leaveImage = contract [] (0 ∷ []) idle
+modes (tighten v) = does (withTight up1 idle)
+modes loosen = does (withTight down1 idle)
+
+abbrev pub waits : Wait → Contract
+waits keepRank = does (waiting (0 ∷ []) [])
+waits forgetRank = does (waiting [] (0 ∷ []))
+waits (seenData none) = does (waiting [] (3 ∷ []))
+waits (seenData (some v)) = does (waiting (3 ∷ []) [])
+waits (fences none) = does (waiting [] (4 ∷ []))
+waits (fences (some n)) = does (waiting (4 ∷ []) [])
+waits countFence = contract (4 ∷ []) [] (waiting (4 ∷ []) [])
+waits (marker m) = does (waiting (5 ∷ []) (10 ∷ []))
+waits reference = contract (5 ∷ []) [] (waiting (10 ∷ []) (5 ∷ []))
+waits (first v) = does (waiting (6 ∷ []) [])
+
+abbrev pub counts : Column → Contract
+counts columns = does (waiting (7 ∷ []) (8 ∷ 9 ∷ []))
+counts noColumns = does (waiting [] (7 ∷ 8 ∷ 9 ∷ []))
+counts nextColumn = does (waiting [] (8 ∷ 9 ∷ []))
+counts firstColumn = does (waiting [] (8 ∷ 9 ∷ []))
+
+abbrev pub knows : Medium → Contract
+knows (openMedia image) = contract [] (8 ∷ []) (withMedia over (turns (0 ∷ 1 ∷ 3 ∷ 4 ∷ 7 ∷ 8 ∷ []) (2 ∷ 5 ∷ 6 ∷ 9 ∷ [])) idle)
+knows closeMedia = contract [] (0 ∷ []) popped
+knows (store M.label) = contract [] (0 ∷ 1 ∷ 3 ∷ 4 ∷ []) (withCaptures down1 (newest (2 ∷ []) (1 ∷ 8 ∷ 9 ∷ [])))
+knows (store M.destination) = contract [] (0 ∷ 3 ∷ 4 ∷ []) (withCaptures down1 (newest (7 ∷ []) (3 ∷ 8 ∷ 9 ∷ [])))
+knows (store M.title) = contract [] (0 ∷ 4 ∷ []) (withCaptures down1 (newest [] (4 ∷ 8 ∷ 9 ∷ [])))
+knows emptyDestination = contract [] (0 ∷ 3 ∷ []) (newest (3 ∷ 7 ∷ []) (8 ∷ 9 ∷ []))
+knows (identify M.labelId) = contract [] (0 ∷ []) (newest (5 ∷ []) (8 ∷ []))
+knows (identify M.referenceId) = contract [] (0 ∷ []) (newest (6 ∷ []) (8 ∷ []))
+knows seekDefinition = contract [] (0 ∷ 7 ∷ []) (newest (7 ∷ []) (3 ∷ 8 ∷ 9 ∷ []))
+
+abbrev pub keeps : Keep → Contract
+keeps keepDefinition = contract [] (0 ∷ 6 ∷ []) popped
+keeps footnoteLabel = does (withLabels up1 idle)
+keeps keepFootnote = does (withCaptures down1 (withLabels down1 idle))
+keeps call = contract [] (0 ∷ 5 ∷ []) popped
+
+unfoldable pub act : Step → Contract
+act (write x) = contract (asksOf x .0) (asksOf x .1) idle
+act (capture x) = does (withCaptures (capturesBy x) idle)
+act (setext x) = holds x
+act (mode x) = modes x
+act (wait x) = waits x
+act (column x) = counts x
+act (medium x) = knows x
+act (retain x) = keeps x

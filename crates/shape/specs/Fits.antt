@@ -5,7 +5,7 @@ use Prim.Native.Nat.{ℕ, _+_}
 use lib.Dec.{leb}
 use lib.ListN.{getD}
 use Rattle.machine.specs.Test.{Test, is, isTight, isInContainer, isImage, hasRank, hasSeenData, isFirstFence, isFencedOnce, isFenceMissing, isFirstMarker, isPastColumns, isOrdered, isLoose, isUnderlinedByDashes, isLast, isHtmlAllowed, isBehindFence, isBehindDefinition, isTightParagraph, isEmptyItem}
-use Rattle.machine.specs.Command.{Command, _▸_, whether, nothing, put, slice, chunk, reference, url, rank, start, alignment, lineEnding, lineEndingIfNeeded, buffer, drop, resume, resumeCode, hold, release, set, tighten, loosen, keepRank, forgetRank, seenData, fences, countFence, marker, first, columns, noColumns, nextColumn, firstColumn, openMedia, closeMedia, store, emptyDestination, identify, leaveImage, seekDefinition, show, keepDefinition, footnoteLabel, keepFootnote, call, missingCells}
+use Rattle.machine.specs.Command.{Command, nothing, step, _▸_, whether, missingCells}
 use Rattle.nesting.specs.Grammar.{Item, one, opt, any, chain}
 use Rattle.shape.specs.Shape.{Say, sure, kept, lost, Moves, Stack, still, changed, over, gone, unknown, Shape, at, ats, seq, allOf, coversAll, covers}
 use Rattle.shape.specs.Acts.{Contract, withWaits, act}
@@ -47,8 +47,8 @@ meets x c =
 
 -- each stack may be n higher than at the start
 module _ (n : ℕ) where
-  abbrev pub step : Shape → Contract → (Shape → Bool) → Bool
-  step x c f = allOf (meets x c ∷ small n (seq x (c .does)) ∷ f (seq x (c .does)) ∷ [])
+  abbrev pub steps : Shape → Contract → (Shape → Bool) → Bool
+  steps x c f = allOf (meets x c ∷ small n (seq x (c .does)) ∷ f (seq x (c .does)) ∷ [])
 
 -- ---- commands
 
@@ -86,52 +86,11 @@ abbrev pub anyCell : Shape → Shape
 anyCell x = withWaits (ats (8 ∷ 9 ∷ []) lost (x .waits)) x
 
 unfoldable pub goes : ℕ → Command → Shape → (Shape → Bool) → Bool
+goes n nothing x f = f x
+goes n (step a) x f = steps n x (act a) f
 goes n (c ▸ d) x f = goes n c x (λ y. goes n d y f)
 goes n (whether q c d) x f = ways q x (λ y. goes n c y f) (λ y. goes n d y f)
 goes n (missingCells c) x f = allOf (waitsFor 7 x ∷ covers x (anyCell x) ∷ goes n c (anyCell x) (λ y. covers y (anyCell x)) ∷ f (anyCell x) ∷ [])
-goes n nothing x f = step n x (act nothing) f
-goes n (put text) x f = step n x (act (put text)) f
-goes n slice x f = step n x (act slice) f
-goes n chunk x f = step n x (act chunk) f
-goes n reference x f = step n x (act reference) f
-goes n (url scheme) x f = step n x (act (url scheme)) f
-goes n rank x f = step n x (act rank) f
-goes n start x f = step n x (act start) f
-goes n alignment x f = step n x (act alignment) f
-goes n lineEnding x f = step n x (act lineEnding) f
-goes n lineEndingIfNeeded x f = step n x (act lineEndingIfNeeded) f
-goes n buffer x f = step n x (act buffer) f
-goes n drop x f = step n x (act drop) f
-goes n (resume before after) x f = step n x (act (resume before after)) f
-goes n resumeCode x f = step n x (act resumeCode) f
-goes n hold x f = step n x (act hold) f
-goes n release x f = step n x (act release) f
-goes n (set flag v) x f = step n x (act (set flag v)) f
-goes n (tighten v) x f = step n x (act (tighten v)) f
-goes n loosen x f = step n x (act loosen) f
-goes n keepRank x f = step n x (act keepRank) f
-goes n forgetRank x f = step n x (act forgetRank) f
-goes n (seenData v) x f = step n x (act (seenData v)) f
-goes n (fences v) x f = step n x (act (fences v)) f
-goes n countFence x f = step n x (act countFence) f
-goes n (marker m) x f = step n x (act (marker m)) f
-goes n (first v) x f = step n x (act (first v)) f
-goes n columns x f = step n x (act columns) f
-goes n noColumns x f = step n x (act noColumns) f
-goes n nextColumn x f = step n x (act nextColumn) f
-goes n firstColumn x f = step n x (act firstColumn) f
-goes n (openMedia image) x f = step n x (act (openMedia image)) f
-goes n closeMedia x f = step n x (act closeMedia) f
-goes n (store part) x f = step n x (act (store part)) f
-goes n emptyDestination x f = step n x (act emptyDestination) f
-goes n (identify id) x f = step n x (act (identify id)) f
-goes n leaveImage x f = step n x (act leaveImage) f
-goes n seekDefinition x f = step n x (act seekDefinition) f
-goes n (show part) x f = step n x (act (show part)) f
-goes n keepDefinition x f = step n x (act keepDefinition) f
-goes n footnoteLabel x f = step n x (act footnoteLabel) f
-goes n keepFootnote x f = step n x (act keepFootnote) f
-goes n call x f = step n x (act call) f
 
 -- ---- what an element may hold: k gives the contract of a kind
 
@@ -154,11 +113,11 @@ module _ (contracts : ℕ → Contract) (n : ℕ) where
 
   abbrev pub goodChain : List ℕ → (Shape → Bool) → Shape → Bool
   goodChain [] f x = f x
-  goodChain (k ∷ ks) f x = f x && step n x (contracts k) (goodChain ks f)
+  goodChain (k ∷ ks) f x = f x && steps n x (contracts k) (goodChain ks f)
 
   unfoldable pub good : List Item → Shape → (Shape → Bool) → Bool
   good [] x f = f x
-  good (one ks ∷ items) x f = every (λ k. step n x (contracts k) (λ y. good items y f)) ks
-  good (opt ks ∷ items) x f = good items x f && every (λ k. step n x (contracts k) (λ y. good items y f)) ks
-  good (any ks ∷ items) x f = allOf (covers x (through ks x) ∷ every (λ k. step n (through ks x) (contracts k) (λ y. covers y (through ks x))) ks ∷ good items (through ks x) f ∷ [])
+  good (one ks ∷ items) x f = every (λ k. steps n x (contracts k) (λ y. good items y f)) ks
+  good (opt ks ∷ items) x f = good items x f && every (λ k. steps n x (contracts k) (λ y. good items y f)) ks
+  good (any ks ∷ items) x f = allOf (covers x (through ks x) ∷ every (λ k. steps n (through ks x) (contracts k) (λ y. covers y (through ks x))) ks ∷ good items (through ks x) f ∷ [])
   good (chain ks ∷ items) x f = goodChain ks (λ y. good items y f) x

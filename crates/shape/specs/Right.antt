@@ -9,17 +9,18 @@ use Rattle.event.specs.declared.Event.{Event}
 use Rattle.character_reference.specs.declared.Marker.{Marker}
 use Rattle.character_reference.specs.Reference.{referenceOf}
 use Rattle.machine.specs.Outcome.{Outcome, go, _>>=_}
-use Rattle.machine.specs.State.{State, Span, Media, Call, Kept}
+use Rattle.machine.specs.State as S
+use Rattle.machine.specs.State.{State, Span, Media, Call}
 use Rattle.machine.specs.Turn.{Turn, spanOf, sliceOf, asStr, strOf, ownStr, justBefore, lookBack}
 use Rattle.machine.specs.Text.{startOf, codeOf}
 use Rattle.machine.specs.Media.{labelOf, destinationOf}
 use Rattle.machine.specs.Footnote.{callIndex, countAt}
 use Rattle.machine.specs.Test.{Test, is, isTight, isInContainer, isImage, hasRank, hasSeenData, isFirstFence, isFencedOnce, isFenceMissing, isFirstMarker, isPastColumns, isOrdered, isLoose, isUnderlinedByDashes, isLast, isHtmlAllowed, isBehindFence, isBehindDefinition, isTightParagraph, isEmptyItem}
-use Rattle.machine.specs.Command.{Command, _▸_, whether, nothing, put, slice, chunk, reference, url, rank, start, alignment, lineEnding, lineEndingIfNeeded, buffer, drop, resume, resumeCode, hold, release, set, tighten, loosen, keepRank, forgetRank, seenData, fences, countFence, marker, first, columns, noColumns, nextColumn, firstColumn, openMedia, closeMedia, store, emptyDestination, identify, leaveImage, seekDefinition, show, keepDefinition, footnoteLabel, keepFootnote, call, missingCells}
+use Rattle.machine.specs.Command.{Command, nothing, step, _▸_, whether, missingCells, Step, write, capture, setext, mode, wait, column, medium, retain, Source, given, made, rank, start, alignment, part, Capture, buffer, drop, resume, resumeCode, Wait, keepRank, forgetRank, seenData, fences, countFence, marker, reference, first, Medium, openMedia, closeMedia, store, emptyDestination, identify, seekDefinition, Keep, keepDefinition, footnoteLabel, keepFootnote, call}
 use Rattle.bounded.specs.Within.{countable, within}
 
 -- the code's tables hold what is kept
-pub record Few (k : Kept) : Type 0 where
+pub record Few (k : S.Kept) : Type 0 where
   pub definitions : length (k .definitions) ≤ 128
   pub footnotes : length (k .footnotes) ≤ 64
   pub calls : length (k .calls) ≤ 64
@@ -71,50 +72,58 @@ Notes t s = (p : Span) (ps : List Span) → s .labels ≡ p ∷ ps → Goes (str
 abbrev pub Calls : Turn → State → Type 0
 Calls t s = (m : Media) (ms : List Media) (p : Span) → s .media ≡ m ∷ ms → m .labelId ≡ some p → (b : List ℕ) × (strOf (t .text) p ≡ go b) × Counted b (s .kept .calls)
 
+-- by groups
+abbrev pub Told : Source → Turn → Type 0
+Told (given x) t = Unit {0}
+Told (made x) t = Goes (ownStr t)
+Told rank t = Unit {0}
+Told start t = Goes (ownStr t >>= startOf)
+Told alignment t = Unit {0}
+Told (part p) t = Unit {0}
+
+abbrev pub Captured : Capture → State → Type 0
+Captured buffer s = Unit {0}
+Captured drop s = Unit {0}
+Captured (resume before after) s = Unit {0}
+Captured resumeCode s = (c : List ℕ) (cs : List (List ℕ)) → s .captures ≡ c ∷ cs → Goes (asStr (codeOf (s .table .aligns) c))
+
+abbrev pub Awaited : Wait → Turn → State → Type 0
+Awaited keepRank t s = Goes (sliceOf (t .text) (spanOf (t .event)))
+Awaited forgetRank t s = Unit {0}
+Awaited (seenData v) t s = Unit {0}
+Awaited (fences v) t s = Unit {0}
+Awaited countFence t s = Unit {0}
+Awaited (marker m) t s = Unit {0}
+Awaited reference t s = (m : Marker) → s .waiting .marker ≡ some m → (b : List ℕ) × (ownStr t ≡ go b) × (c : List ℕ) × (referenceOf m b ≡ some c)
+Awaited (first v) t s = Unit {0}
+
+abbrev pub Known : Medium → Turn → State → Type 0
+Known (openMedia image) t s = Unit {0}
+Known closeMedia t s = Unit {0}
+Known (store p) t s = Unit {0}
+Known emptyDestination t s = Unit {0}
+Known (identify id) t s = Unit {0}
+Known seekDefinition t s = Sought t s
+
+abbrev pub Kept : Keep → Turn → State → Type 0
+Kept keepDefinition t s = Defines t s
+Kept footnoteLabel t s = Unit {0}
+Kept keepFootnote t s = Notes t s
+Kept call t s = Calls t s
+
+abbrev pub RightStep : Step → Turn → State → Type 0
+RightStep (write x) t s = Told x t
+RightStep (capture x) t s = Captured x s
+RightStep (setext x) t s = Unit {0}
+RightStep (mode x) t s = Unit {0}
+RightStep (wait x) t s = Awaited x t s
+RightStep (column x) t s = Unit {0}
+RightStep (medium x) t s = Known x t s
+RightStep (retain x) t s = Kept x t s
+
 unfoldable pub Right : Command → Turn → State → Type 0
+Right nothing t s = Unit {0}
+Right (step x) t s = RightStep x t s
 Right (c ▸ d) t s = Right c t s × ((u : State) → within c t s ≡ go u → Right d t u)
 Right (whether q c d) t s = Asks q t × Right c t s × Right d t s
 Right (missingCells c) t s = (u : State) → Right c t u
-Right nothing t s = Unit {0}
-Right (put text) t s = Unit {0}
-Right slice t s = Goes (ownStr t)
-Right chunk t s = Goes (ownStr t)
-Right reference t s = (m : Marker) → s .waiting .marker ≡ some m → (b : List ℕ) × (ownStr t ≡ go b) × (c : List ℕ) × (referenceOf m b ≡ some c)
-Right (url scheme) t s = Goes (ownStr t)
-Right rank t s = Unit {0}
-Right start t s = Goes (ownStr t >>= startOf)
-Right alignment t s = Unit {0}
-Right lineEnding t s = Unit {0}
-Right lineEndingIfNeeded t s = Unit {0}
-Right buffer t s = Unit {0}
-Right drop t s = Unit {0}
-Right (resume before after) t s = Unit {0}
-Right resumeCode t s = (c : List ℕ) (cs : List (List ℕ)) → s .captures ≡ c ∷ cs → Goes (asStr (codeOf (s .table .aligns) c))
-Right hold t s = Unit {0}
-Right release t s = Unit {0}
-Right (set flag v) t s = Unit {0}
-Right (tighten v) t s = Unit {0}
-Right loosen t s = Unit {0}
-Right keepRank t s = Goes (sliceOf (t .text) (spanOf (t .event)))
-Right forgetRank t s = Unit {0}
-Right (seenData v) t s = Unit {0}
-Right (fences v) t s = Unit {0}
-Right countFence t s = Unit {0}
-Right (marker m) t s = Unit {0}
-Right (first v) t s = Unit {0}
-Right columns t s = Unit {0}
-Right noColumns t s = Unit {0}
-Right nextColumn t s = Unit {0}
-Right firstColumn t s = Unit {0}
-Right (openMedia image) t s = Unit {0}
-Right closeMedia t s = Unit {0}
-Right (store part) t s = Unit {0}
-Right emptyDestination t s = Unit {0}
-Right (identify id) t s = Unit {0}
-Right leaveImage t s = Unit {0}
-Right seekDefinition t s = Sought t s
-Right (show part) t s = Unit {0}
-Right keepDefinition t s = Defines t s
-Right footnoteLabel t s = Unit {0}
-Right keepFootnote t s = Notes t s
-Right call t s = Calls t s

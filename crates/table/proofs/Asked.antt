@@ -18,23 +18,18 @@ use Rattle.machine.specs.Buffers.{push}
 use Rattle.machine.specs.Text.{alignText}
 use Rattle.machine.specs.Turn.{Turn}
 use Rattle.machine.specs.Test.{isPastColumns, test}
-use Rattle.machine.specs.Command.{alignment, exec}
+use Rattle.machine.specs.Command as C
+use Rattle.machine.specs.Words.{alignment}
+use Rattle.machine.proofs.Outcomes.{need-goes}
 use Rattle.buffers.specs.declared.Buffers.{Buffers}
 use Rattle.bounded.specs.Within.{within}
-use Rattle.bounded.proofs.Bounds.{done}
+use Rattle.bounded.proofs.Bounds.{wrote}
 use Rattle.pieces.specs.Pieces.{PushesAlign}
 use Rattle.context.specs.declared.Table.{Table}
 use Rattle.context.specs.declared.Context.{Context}
 use Rattle.context.specs.Rel.{Any, Keeps, Tells, Tabled, alignsOf, enterOf}
-use Rattle.context.proofs.Plain.{never}
 use Rattle.context.proofs.Laws.{withBuffers, rel-buffers, pushed}
-use Rattle.context.proofs.Commands.{first-goes}
 use Rattle.table.specs.Table.{Lacks}
-
--- an `unwrap` that goes on
-pub needed : {A : Type 0} (x : Option A) (a : A) → need x ≡ go a → x ≡ some a
-needed none a p = never p
-needed (some b) a p = let q : b ≡ a = cc in ap some q
 
 there : {A : Type 0} (l : List A) (i : ℕ) (a : A) → getElem? l i ≡ some a → i < length l
 there [] i a p = let z : _≡_ {A = ℕ} 0 1 = cc in absurd (omega arith)
@@ -73,10 +68,10 @@ module _ {c : Context} where
   unfolding test
   tells-past n e = record {
     tells = λ t w o b s y v x p.
-        let f = first-goes (need (s .table .aligns)) (λ (aligns : List ℕ). go (leb (length aligns) (s .table .column))) y p in
+        let f = need-goes (s .table .aligns) (λ (aligns : List ℕ). go (leb (length aligns) (s .table .column))) y p in
         let g = f .2 in
         let q : leb (length (f .0)) (s .table .column) ≡ y = cc in
-        sym q ∙ asked (c .table) n (s .table) (f .0) e (x .table) (needed (s .table .aligns) (f .0) (f .1));
+        sym q ∙ asked (c .table) n (s .table) (f .0) e (x .table) (f .1);
   }
 
   lacking : (m : ℕ) → m ≡ columnsOf (enterOf (c .table .extra)) - c .table .column → Lacks c m
@@ -103,12 +98,12 @@ pub record Aligned (s u : State) : Type 0 where
   pub pushed-so : go (push (alignText one) s) ≡ go u
 
 pub went-aligned : (t : Turn) (s u : State) → within alignment t s ≡ go u → Aligned s u
-unfolding exec within
 went-aligned t s u p =
-    let d = done true (need (s .table .aligns) >>= λ aligns. need (getElem? aligns (s .table .column)) >>= λ a. go (push (alignText a) s)) u p .went in
-    let f = first-goes (need (s .table .aligns)) (λ (aligns : List ℕ). need (getElem? aligns (s .table .column)) >>= λ a. go (push (alignText a) s)) u d in
-    let g = first-goes (need (getElem? (f .0) (s .table .column))) (λ a. go (push (alignText a) s)) u (f .2) in
-    record { aligns = f .0; aligns-are = needed (s .table .aligns) (f .0) (f .1); one = g .0; one-is = needed (getElem? (f .0) (s .table .column)) (g .0) (g .1); pushed-so = g .2 }
+    let d = wrote C.alignment t s u p in
+    let f = need-goes (s .table .aligns) (λ (aligns : List ℕ). need (getElem? aligns (s .table .column)) >>= λ a. go (alignText a)) (d .0) (d .1) in
+    let g = need-goes (getElem? (f .0) (s .table .column)) (λ a. go (alignText a)) (d .0) (f .2) in
+    let z : alignText (g .0) ≡ d .0 = (let y = g .2 in cc) in
+    record { aligns = f .0; aligns-are = f .1; one = g .0; one-is = g .1; pushed-so = ap (λ (l : List ℕ). go (push l s)) z ∙ ap go (d .2) }
 
 pub aligned : {c : Context} {w o w′ o′ : List ℕ} {x : Buffers} → PushesAlign (c .table .extra) (c .table .column) (c .buffers) w o x w′ o′ → Keeps Any alignment c w o (withBuffers x c) w′ o′
 aligned {c} k = record {

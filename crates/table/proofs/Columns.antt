@@ -11,7 +11,8 @@ use Rattle.machine.specs.State.{State}
 use Rattle.machine.specs.Outcome.{go}
 use Rattle.machine.specs.Set.{setAligns}
 use Rattle.machine.specs.Turn.{Turn}
-use Rattle.machine.specs.Command.{Command, columns, noColumns, nextColumn, firstColumn, exec}
+use Rattle.machine.specs.Command.{Command, exec}
+use Rattle.machine.specs.Words.{columns, noColumns, nextColumn, firstColumn}
 use Rattle.bounded.specs.Within.{one, within}
 use Rattle.bounded.proofs.Bounds.{done}
 use Rattle.context.specs.declared.Table.{Table}
@@ -23,7 +24,7 @@ use Rattle.table.specs.Table.{IsEvent}
 -- ---- the table alone
 
 abbrev withTable : Table → Context → Context
-withTable x c = record { buffers = c .buffers; word = c .word; rank = c .rank; tight = c .tight; table = x; ending = c .ending }
+withTable x c = record { buffers = c .buffers; word = c .word; rank = c .rank; tight = c .tight; table = x; fixed = c .fixed }
 
 abbrev columned : ℕ → Context → Context
 columned n c = withTable (record { inside = c .table .inside; extra = c .table .extra; column = n }) c
@@ -53,19 +54,19 @@ module _ {c : Context} where
             waits = x .waits;
             tight = x .tight;
             table = record { aligns = i; column = x .table .column };
-            ending = x .ending;
+            fixed = x .fixed;
           });
     };
   }
 
   -- a command that sets the machine's table
   tabling : {d : Command} (y : Table) (f : State.Table → State.Table)
-      → ((t : Turn) (s : State) → within d t s ≡ one true (go (record { page = s .page; captures = s .captures; media = s .media; tight = s .tight; labels = s .labels; flags = s .flags; waiting = s .waiting; table = f (s .table); kept = s .kept; ending = s .ending })))
+      → ((t : Turn) (s : State) → within d t s ≡ one true (go (record { page = s .page; captures = s .captures; media = s .media; tight = s .tight; labels = s .labels; flags = s .flags; waiting = s .waiting; table = f (s .table); kept = s .kept; fixed = s .fixed })))
       → ((a : State.Table) → Tabled (c .table) a → Tabled y (f a))
       → Sets d c (withTable y c)
   tabling y f e k =
-      setting (λ s. record { page = s .page; captures = s .captures; media = s .media; tight = s .tight; labels = s .labels; flags = s .flags; waiting = s .waiting; table = f (s .table); kept = s .kept; ending = s .ending }) e
-      (λ w o b s i r. record { stand = stands (r .stand) refl refl; flags = r .flags; waits = r .waits; tight = r .tight; table = k (s .table) (r .table); ending = r .ending })
+      setting (λ s. record { page = s .page; captures = s .captures; media = s .media; tight = s .tight; labels = s .labels; flags = s .flags; waiting = s .waiting; table = f (s .table); kept = s .kept; fixed = s .fixed }) e
+      (λ w o b s i r. record { stand = stands (r .stand) refl refl; flags = r .flags; waits = r .waits; tight = r .tight; table = k (s .table) (r .table); fixed = r .fixed })
 
   pub closed : Sets noColumns c (withTable (record { inside = false; extra = c .table .extra; column = c .table .column }) c)
   unfolding exec within

@@ -2,7 +2,7 @@
 ghost use mathlib.Core.Path.{_≡_};
 ghost use Rattle.event.specs.Event.{columnsOf};
 ghost use Rattle.machine.specs.Test.{isPastColumns};
-ghost use Rattle.machine.specs.Command.{alignment, columns, noColumns, nextColumn, firstColumn};
+ghost use Rattle.machine.specs.Words.{alignment, columns, noColumns, nextColumn, firstColumn};
 ghost use Rattle.context.specs.Rel.{Any, Keeps, Sets, SetsFor, Tells, enterOf};
 ghost use Rattle.table.specs.Table.{IsEvent, Lacks};
 use context::Context;

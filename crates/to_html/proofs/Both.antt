@@ -13,11 +13,12 @@ use Rattle.event.specs.Event.{eventsOf}
 use Rattle.event.proofs.Laws.{length-events}
 use Rattle.machine.specs.declared.Options.{Options}
 use Rattle.machine.specs.declared.Ending.{Ending}
+use Rattle.machine.specs.declared.Fixed.{Fixed}
 use Rattle.machine.specs.State.{State, start}
 use Rattle.machine.specs.Outcome.{Outcome, stop, go}
 use Rattle.machine.specs.Turn.{Turn}
 use Rattle.machine.specs.Totals.{captured, held, kept, over}
-use Rattle.machine.specs.Run.{Answer, refused, stopped, endingOf, turnsOf, runFrom, runWith, runOf}
+use Rattle.machine.specs.Run.{Answer, refused, stopped, endingOf, fixedOf, areBegun, turnsOf, runFrom, runWith, runOf}
 use Rattle.bounded.specs.Within.{Goes, ends, turns}
 use Rattle.find_ending.specs.Ending.{Finds}
 use Rattle.kept.specs.Kept.{Long}
@@ -102,23 +103,23 @@ module _ (text events : List ℕ) (o : Options) (room : ℕ) where
   unfolding turnsOf turnsLeft
   turns-are = refl
 
-  run-is : (x : Ending) → endingOf (o .ending) text (eventsOf events) ≡ go x → runOf text o room (eventsOf events) ≡ run events room (turnsFrom true text events o) (start x)
+  run-is : (x : Ending) → endingOf (o .ending) text (eventsOf events) ≡ go x → areBegun (eventsOf events) ≡ true → runOf text o room (eventsOf events) ≡ run events room (turnsFrom true text events o) (start (fixedOf o x))
   unfolding runOf runWith
-  run-is x p =
-      ap (λ (e : Outcome Ending). elim e [ stop ↦ stopped 0 | go y ↦ runFrom (length (eventsOf events)) (over room) (turnsOf text o (eventsOf events)) (start y) ]) p
-      ∙ ap (λ (n : ℕ). runFrom n (over room) (turnsOf text o (eventsOf events)) (start x)) (length-events events)
-      ∙ ap (λ (ts : List Turn). run events room ts (start x)) turns-are
+  run-is x p q =
+      rw (p, q)
+      (ap (λ (n : ℕ). runFrom n (over room) (turnsOf text o (eventsOf events)) (start (fixedOf o x))) (length-events events)
+      ∙ ap (λ (ts : List Turn). run events room ts (start (fixedOf o x))) turns-are)
 
-  start-roomy : (x : Ending) → over room (start x) ≡ none
+  start-roomy : (x : Fixed) → over room (start x) ≡ none
   unfolding over captured held kept start
   start-roomy x = rw (le-ltb room 0 zero-le)
 
 pub renders : {text events : List ℕ} {o : Options} {ending : Ending} {b : Whole} {w : World} {out : List ℕ} {r : Rendered}
-    → Finds (o .ending) text events ending → Begun ending b → length (w .work) ≡ 49152 → length (w .starts) ≡ 64 → Long (w .tables) → FinishesAll true text events o b w out r → Renders text events o (w .out) out r
+    → Finds (o .ending) text events ending → Begun (fixedOf o ending) b → length (w .work) ≡ 49152 → length (w .starts) ≡ 64 → Long (w .tables) → FinishesAll true text events o b w out r → Renders text events o (w .out) out r
 renders {text} {events} {o} {ending} {b} {w} {out} {r} f k l n t q = record {
   renders = λ g.
       let e = f .finds (g .ending) (g .found) in
-      let s : Stands text (length (w .out)) b w (start (g .ending)) = record { built = rw (← e) (k .begun text w l n t); long = refl; roomy = start-roomy text events o (length (w .out)) (g .ending) } in
-      let y = q .finishes (start (g .ending)) (g .last) s (rw (← turns-are text events o (length (w .out))) (g .goes)) (record { closed = g .closed; clean = g .clean; called = g .called }) in
-      subst (λ a. Answers out r a) (sym (run-is text events o (length (w .out)) (g .ending) (g .found))) y;
+      let s : Stands text (length (w .out)) b w (start (fixedOf o (g .ending))) = record { built = rw (← e) (k .begun text w l n t); long = refl; roomy = start-roomy text events o (length (w .out)) (fixedOf o (g .ending)) } in
+      let y = q .finishes (start (fixedOf o (g .ending))) (g .last) s (rw (← turns-are text events o (length (w .out))) (g .goes)) (record { closed = g .closed; clean = g .clean; called = g .called }) in
+      subst (λ a. Answers out r a) (sym (run-is text events o (length (w .out)) (g .ending) (g .found) (g .begun))) y;
 }

@@ -6,7 +6,7 @@ use Prim.Native.Nat.{ℕ, zero-le, _+_, _≤_}
 use native.Mathlib.Nat.{not-suc-le-zero}
 use native.Mathlib.Omega.{arith}
 use lib.ListN.{length, take, drop, length-take, length-drop, getElem?}
-use Rattle.machine.specs.declared.Ending.{Ending}
+use Rattle.machine.specs.declared.Fixed.{Fixed}
 use Rattle.machine.specs.State.{start}
 use Rattle.machine.specs.Totals.{held, kept}
 use Rattle.regions.specs.Regions.{regionAt}
@@ -31,7 +31,7 @@ no-signs firsts seconds = record { signs = λ k h. absurd (not-suc-le-zero h) }
 no-row : {A : Type 0} (k : ℕ) (a : A) → getElem? [] k ≡ some a → ⊥
 no-row k a p = let z : _≡_ {A = ℕ} 0 1 = cc in omega arith
 
-pub begun : {ending : Ending} {c : Context} → Rel.Begun ending c → Begun ending (record { context = c; links = noMedia; kept = record { end = 0; definitions = 0; footnotes = 0; calls = 0; labels = 0 } })
+pub begun : {fixed : Fixed} {c : Context} → Rel.Begun fixed c → Begun fixed (record { context = c; links = noMedia; kept = record { end = 0; definitions = 0; footnotes = 0; calls = 0; labels = 0 } })
 unfolding start held kept
 begun k =
     record {

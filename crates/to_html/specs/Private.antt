@@ -8,7 +8,7 @@ use lib.ListN.{length}
 use Rattle.lent.specs.Bytes.{if_then_else_}
 use Rattle.event.specs.declared.EventIndex.{EventIndex}
 use Rattle.machine.specs.declared.Options.{Options}
-use Rattle.machine.specs.declared.Ending.{Ending}
+use Rattle.machine.specs.declared.Fixed.{Fixed}
 use Rattle.machine.specs.State.{State, start}
 use Rattle.machine.specs.Turn.{Turn}
 use Rattle.bounded.specs.Within.{Goes}
@@ -40,8 +40,8 @@ abbrev pub overOf : ℕ → EventIndex → Rendered
 overOf number place = if eqb number 8 then WorkFull place else PageFull place
 
 -- before the first event, whatever is lent
-pub record Begun (ending : Ending) (b : Whole) : Type 0 where
-  pub begun : (text : List ℕ) (w : World) → length (w .work) ≡ 49152 → length (w .starts) ≡ 64 → Long (w .tables) → Built text b w (start ending)
+pub record Begun (fixed : Fixed) (b : Whole) : Type 0 where
+  pub begun : (text : List ℕ) (w : World) → length (w .work) ≡ 49152 → length (w .starts) ≡ 64 → Long (w .tables) → Built text b w (start fixed)
 
 -- the last state of a run
 pub record Last (v : State) : Type 0 where

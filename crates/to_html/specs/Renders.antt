@@ -1,5 +1,6 @@
 -- What the whole comes to: the machine's answer under its limits. Assumes nothing.
 use mathlib.Core.Path.{_≡_}
+use mathlib.Core.Bool.{true}
 use mathlib.Core.List.{List, []}
 use Prim.Native.Nat.{ℕ, _≤_}
 use lib.ListN.{length, take}
@@ -8,7 +9,7 @@ use Rattle.machine.specs.declared.Options.{Options}
 use Rattle.machine.specs.declared.Ending.{Ending}
 use Rattle.machine.specs.Outcome.{go}
 use Rattle.machine.specs.State.{State, start}
-use Rattle.machine.specs.Run.{Answer, page, refused, endingOf, turnsOf, runOf}
+use Rattle.machine.specs.Run.{Answer, page, refused, endingOf, fixedOf, areBegun, turnsOf, runOf}
 use Rattle.bounded.specs.Within.{Goes}
 use Rattle.clean.specs.Clean.{Clean}
 use Rattle.clean.specs.Section.{Called}
@@ -19,8 +20,9 @@ use Rattle.built.specs.declared.Rendered.the-variants.{Page, WorkFull, PageFull
 pub record Runs (text events : List ℕ) (o : Options) : Type 0 where
   pub ending : Ending
   pub found : endingOf (o .ending) text (eventsOf events) ≡ go ending
+  pub begun : areBegun (eventsOf events) ≡ true
   pub last : State
-  pub goes : Goes (turnsOf text o (eventsOf events)) (start ending) last
+  pub goes : Goes (turnsOf text o (eventsOf events)) (start (fixedOf o ending)) last
   pub closed : last .captures ≡ []
   pub clean : Clean last
   pub called : Called last

@@ -14,7 +14,7 @@ use links::Label;
 use links::Links;
 use links::Media;
 use links::Text;
-use machine::Ending;
+use machine::Fixed;
 use machine::Options;
 use passes::Passed;
 use tight::Tight;
@@ -40,8 +40,8 @@ fn no_media() -> Links
 }
 
 // Before the first event.
-fn begin(ending: Ending) -> Whole
-    ensures { λ r. ⌜ Begun ending r ⌝ }
+fn begin(fixed: Fixed) -> Whole
+    ensures { λ r. ⌜ Begun fixed r ⌝ }
 {
     let kept = Kept {
         end: 0,
@@ -52,7 +52,7 @@ fn begin(ending: Ending) -> Whole
     };
     let links = no_media();
     Whole {
-        context: context::new(ending),
+        context: context::new(fixed),
         links,
         kept,
     }
@@ -85,8 +85,8 @@ fn finish(
     if k.calls == 0 {
         return Rendered::Page(at);
     }
-    let ending = c.ending;
-    let end = section::footnote_section(k, ending, text, work, footnotes, calls, out, at);
+    let fixed = c.fixed;
+    let end = section::footnote_section(k, fixed, text, work, footnotes, calls, out, at);
     if out.len() < end {
         let n = event::count(events);
         return Rendered::PageFull(EventIndex(n));
@@ -198,7 +198,8 @@ pub fn to_html(
     let mut labels = [0usize; 128];
     let default = options.ending;
     let ending = find_ending::find_ending(text, events, default);
-    let b = begin(ending);
+    let fixed = Fixed { ending };
+    let b = begin(fixed);
     compile(
         b,
         text,

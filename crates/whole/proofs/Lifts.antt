@@ -10,11 +10,11 @@ use Rattle.machine.specs.Outcome.{Outcome, stop, go, _>>=_}
 use Rattle.machine.specs.Turn.{Turn}
 use Rattle.machine.specs.Test.{Test, test}
 use Rattle.machine.specs.Command.{Command, nothing, _▸_, whether}
+use Rattle.machine.proofs.Outcomes.{first-goes}
 use Rattle.bounded.specs.Within.{within}
 use Rattle.regions.specs.Regions.{regionAt}
 use Rattle.context.specs.declared.Context.{Context}
 use Rattle.context.specs.Rel.{Rel, Any, Keeps, Takes, Opens, Sets, Begins, Ends}
-use Rattle.context.proofs.Commands.{first-goes}
 use Rattle.whole.specs.declared.Whole.{Whole}
 use Rattle.whole.specs.Quiet.{isQuiet, Rests}
 use Rattle.whole.specs.Whole.{World, Built, Always, Roomy, Handles, withContext, withStarts, withBytes}

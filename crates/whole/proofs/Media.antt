@@ -17,7 +17,9 @@ use Rattle.machine.specs.Buffers.{takeCapture, takeFrom}
 use Rattle.machine.specs.Turn.{Turn, spanOf}
 use Rattle.machine.specs.Media.{newMedia, newestMedia, splitMedia, onNewest, Part, withPart, Id, withId, ownOf}
 use Rattle.machine.specs.Totals.{size}
-use Rattle.machine.specs.Command.{Command, openMedia, closeMedia, identify, emptyDestination, store, exec}
+use Rattle.machine.specs.Command.{Command, exec}
+use Rattle.machine.specs.Words.{openMedia, closeMedia, identify, emptyDestination, store}
+use Rattle.machine.proofs.Outcomes.{never}
 use Rattle.event.specs.declared.Event.{Event}
 use Rattle.bounded.specs.Within.{newestIsBare, ofNewest, partsFrom, one, within}
 use Rattle.bounded.proofs.Bounds.{done, fits}
@@ -28,7 +30,6 @@ use Rattle.resume.proofs.Parts.{drop-take}
 use Rattle.resume.proofs.Written as Written
 use Rattle.context.specs.declared.Context.{Context}
 use Rattle.context.specs.Rel.{Rel, Any, Sees}
-use Rattle.context.proofs.Plain.{never}
 use Rattle.context.proofs.Laws.{withBuffers}
 use Rattle.links.specs.declared.Links.{Links}
 use Rattle.links.specs.Links.{Linked, Opens, Closes, Identifies, Empties, Stores, Around}
@@ -41,7 +42,7 @@ pub cc-go : {A : Type 0} {a b : A} → go a ≡ go b → a ≡ b
 cc-go p = cc
 
 -- the newest medium is there, and this becomes of it
-pub newest-there : (s u : State) (f : State.Media × List State.Media → Outcome State) → (newestMedia s >>= f) ≡ go u → (m : State.Media) × (ms : List State.Media) × (s .media ≡ m ∷ ms) × (f (m, ms) ≡ go u)
+pub newest-there : {A : Type 0} (s : State) (u : A) (f : State.Media × List State.Media → Outcome A) → (newestMedia s >>= f) ≡ go u → (m : State.Media) × (ms : List State.Media) × (s .media ≡ m ∷ ms) × (f (m, ms) ≡ go u)
 unfolding newestMedia
 newest-there s u f p = on (s .media) refl p
   where
@@ -50,7 +51,7 @@ newest-there s u f p = on (s .media) refl p
     on (m ∷ ms) q r = (m, ms, q, r)
 
 alike-media : (x : List State.Media) (s : State) → Alike s (setMedia x s)
-alike-media x s = record { page = refl; captures = refl; flags = refl; rank = refl; seen = refl; fences = refl; marker = refl; first = refl; tight = refl; table = refl; ending = refl }
+alike-media x s = record { page = refl; captures = refl; flags = refl; rank = refl; seen = refl; fences = refl; marker = refl; first = refl; tight = refl; table = refl; fixed = refl }
 
 module _ {text : List ℕ} {b : Whole} {w : World} {l : Links} where
   -- the open media alone change
@@ -138,7 +139,7 @@ captured text b w s c cs q l y =
 -- taken off, the context has one capture less
 pub uncaptured : {c : Context} {captures out starts : List ℕ} {x : Buffers} (s : State) (d : List ℕ) (ds : List (List ℕ)) → Stand.Drops (c .buffers) starts x → s .captures ≡ d ∷ ds → c .buffers .end ≤ length captures → Rel c captures out starts s
     → Rel (withBuffers x c) captures out starts (setCaptures ds s)
-uncaptured {captures = captures} {out = out} s d ds k q l r = record { stand = k captures out d ds s q l (r .stand); flags = r .flags; waits = r .waits; tight = r .tight; table = r .table; ending = r .ending }
+uncaptured {captures = captures} {out = out} s d ds k q l r = record { stand = k captures out d ds s q l (r .stand); flags = r .flags; waits = r .waits; tight = r .tight; table = r .table; fixed = r .fixed }
 
 pub stores : {View : Turn → Type 0} {b : Whole} {work starts work′ : List ℕ} {part : Part} {l : Links} {x : Buffers}
     → Stores part (b .context .buffers .start) (b .context .buffers .end - b .context .buffers .start) (b .links) work l work′ → Stand.Drops (b .context .buffers) starts x → length work′ ≡ length work

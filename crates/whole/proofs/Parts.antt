@@ -30,7 +30,7 @@ pub record Alike (s u : State) : Type 0 where
   pub first : u .waiting .first ≡ s .waiting .first
   pub tight : u .tight ≡ s .tight
   pub table : u .table ≡ s .table
-  pub ending : u .ending ≡ s .ending
+  pub fixed : u .fixed ≡ s .fixed
 
 pub rel-alike : {c : Context} {w o st : List ℕ} {s u : State} → Alike s u → Rel c w o st s → Rel c w o st u
 rel-alike a r =
@@ -41,7 +41,7 @@ rel-alike a r =
       waits = record { rank = v .rank ∙ sym (a .rank); seen = rw (a .seen) (v .seen); fences = rw (a .fences) (v .fences); marker = rw (a .marker) (v .marker); first = rw (a .first) (v .first) };
       tight = rw (a .tight) (r .tight);
       table = rw (a .table) (r .table);
-      ending = r .ending ∙ sym (a .ending);
+      fixed = r .fixed ∙ sym (a .fixed);
     }
 
 -- ---- open media, and the setext text

@@ -5,25 +5,22 @@ use mathlib.Core.List.{List, [], _∷_}
 use mathlib.Core.Option.{Option, none, some}
 use Prim.Native.Nat.{ℕ, zero, suc, _-_}
 use native.Mathlib.Omega.{arith}
-use lib.ListN.{length, getElem?}
-use Rattle.lent.specs.Bytes.{if_then_else_}
+use lib.ListN.{length}
 use Rattle.lent.proofs.Laws.{and-left, and-right}
 use Rattle.character_reference.specs.Reference.{referenceOf}
 use Rattle.machine.specs.State.{State}
 use Rattle.machine.specs.Outcome.{Outcome, stop, go, _>>=_, need}
 use Rattle.machine.specs.Set.{setCaptures}
-use Rattle.machine.specs.Buffers.{push, pushTo, pushEncoded, openCapture, takeCapture, takeFrom, endLine, endLineIfNeeded, isEol, lastOr, newestOf}
+use Rattle.machine.specs.Buffers.{push, pushTo, pushEncoded, openCapture, takeCapture, takeFrom}
 use Rattle.machine.specs.Turn.{Turn, sliceOf, spanOf, asStr, ownStr}
-use Rattle.machine.specs.Text.{startOf, codeOf}
-use Rattle.machine.specs.Media.{newestMedia, leaveAlt, partText}
+use Rattle.machine.specs.Text.{codeOf}
+use Rattle.machine.specs.Media.{newestMedia, leaveAlt}
 use Rattle.machine.specs.Test.{test}
-use Rattle.machine.specs.Command.{Command, _▸_, whether, missingCells, nothing, put, slice, chunk, reference, url, rank, start, alignment, lineEnding, lineEndingIfNeeded, buffer, drop, resume, resumeCode, set, tighten, loosen, keepRank, forgetRank, seenData, fences, countFence, marker, first, columns, noColumns, nextColumn, firstColumn, leaveImage, show, hold, release, openMedia, closeMedia, store, emptyDestination, identify, seekDefinition, keepDefinition, footnoteLabel, keepFootnote, call, repeat, exec}
-use Rattle.bounded.specs.Within.{one, within}
+use Rattle.machine.proofs.Outcomes.{never}
+use Rattle.machine.specs.Command.{Command, nothing, step, _▸_, whether, missingCells, Step, write, capture, setext, mode, wait, column, medium, retain, textOf, Capture, buffer, drop, resume, resumeCode, capturing, Mode, set, leaveImage, tighten, loosen, setting, Wait, keepRank, forgetRank, seenData, fences, countFence, marker, reference, first, awaiting, Column, columns, noColumns, nextColumn, firstColumn, counting, perform, repeat}
+use Rattle.bounded.specs.Within.{one, inOrder, within}
 use Rattle.bounded.proofs.Bounds.{done}
-use Rattle.whole.specs.Quiet.{isQuiet, Rests}
-
-never : {X A : Type 0} {u : A} → stop ≡ go u → X
-never p = let z : _≡_ {A = ℕ} 0 1 = cc in absurd (omega arith)
+use Rattle.whole.specs.Quiet.{quietStep, isQuiet, Rests}
 
 -- ---- outcomes that leave the rest, where they go on
 
@@ -57,18 +54,6 @@ encoded : (t : List ℕ) (s : State) → Rests s (pushEncoded t s)
 unfolding pushEncoded
 encoded t s = pushed _ s
 
-ended : (s : State) → Rests s (endLine s)
-unfolding endLine
-ended s = pushed _ s
-
-ended-if : (s : State) → Rests s (endLineIfNeeded s)
-unfolding endLineIfNeeded
-ended-if s = on (isEol (lastOr 10 (newestOf (s .page) (s .captures))))
-  where
-    on : (x : Bool) → Rests s (if x then s else endLine s)
-    on true = same s
-    on false = ended s
-
 opened : (s : State) → Rests s (openCapture s)
 unfolding openCapture
 opened s = record { media = refl; labels = refl; kept = refl; setext = refl }
@@ -95,11 +80,6 @@ either : (s : State) (x y : Outcome State) → Leaves s x → Leaves s y → (b 
 either s x y k l true = k
 either s x y k l false = l
 
--- ---- commands
-
-alone : (s : State) (o : Outcome State) → Leaves s o → Leaves s (one true o)
-alone s o k = record { leaves = λ u p. k .leaves u (done true o u p .went) }
-
 left : (s : State) → Leaves s (leaveAlt s)
 unfolding leaveAlt
 left s = binds s (newestMedia s) _ (λ (m, ms). to s _ (record { media = refl; labels = refl; kept = refl; setext = refl }))
@@ -107,53 +87,57 @@ left s = binds s (newestMedia s) _ (λ (m, ms). to s _ (record { media = refl; l
 loud : false ≡ true → ⊥
 loud p = let y : _≡_ {A = ℕ} 0 1 = cc in omega arith
 
+-- ---- steps
+
+captured : (x : Capture) (s : State) → Leaves s (capturing x s)
+captured buffer s = to s _ (opened s)
+captured drop s = taken s _ (λ b cs. to s _ (record { media = refl; labels = refl; kept = refl; setext = refl }))
+captured (resume before after) s = taken s _ (λ b cs. to s _ (onward (record { media = refl; labels = refl; kept = refl; setext = refl }) (pushed _ _)))
+captured resumeCode s = taken s _ (λ b cs. binds s (asStr (codeOf (s .table .aligns) b)) _ (λ code. to s _ (onward (record { media = refl; labels = refl; kept = refl; setext = refl }) (pushed code _))))
+
+moded : (x : Mode) (s : State) → Leaves s (setting x s)
+moded (set flag x) s = to s _ (record { media = refl; labels = refl; kept = refl; setext = refl })
+moded leaveImage s = left s
+moded (tighten x) s = to s _ (record { media = refl; labels = refl; kept = refl; setext = refl })
+moded loosen s = to s _ (record { media = refl; labels = refl; kept = refl; setext = refl })
+
+awaited : (x : Wait) (t : Turn) (s : State) → Leaves s (awaiting x t s)
+awaited keepRank t s = binds s (sliceOf (t .text) (spanOf (t .event))) _ (λ b. to s _ (record { media = refl; labels = refl; kept = refl; setext = refl }))
+awaited forgetRank t s = to s _ (record { media = refl; labels = refl; kept = refl; setext = refl })
+awaited (seenData x) t s = to s _ (record { media = refl; labels = refl; kept = refl; setext = refl })
+awaited (fences x) t s = to s _ (record { media = refl; labels = refl; kept = refl; setext = refl })
+awaited countFence t s = binds s (need (s .waiting .fences)) _ (λ n. to s _ (record { media = refl; labels = refl; kept = refl; setext = refl }))
+awaited (marker m) t s = to s _ (record { media = refl; labels = refl; kept = refl; setext = refl })
+awaited reference t s = binds s (need (s .waiting .marker)) _ (λ m. binds s (ownStr t) _ (λ b. binds s (need (referenceOf m b)) _ (λ c. to s _ (onward (record { media = refl; labels = refl; kept = refl; setext = refl }) (encoded c _)))))
+awaited (first x) t s = to s _ (record { media = refl; labels = refl; kept = refl; setext = refl })
+
+counted : (x : Column) (t : Turn) (s : State) → Leaves s (counting x t s)
+counted columns t s = to s _ (record { media = refl; labels = refl; kept = refl; setext = refl })
+counted noColumns t s = to s _ (record { media = refl; labels = refl; kept = refl; setext = refl })
+counted nextColumn t s = to s _ (record { media = refl; labels = refl; kept = refl; setext = refl })
+counted firstColumn t s = to s _ (record { media = refl; labels = refl; kept = refl; setext = refl })
+
+performed : (x : Step) → quietStep x ≡ true → (t : Turn) (s : State) → Leaves s (perform x t s)
+performed (write x) h t s = binds s (textOf x t s) _ (λ b. to s _ (pushed b s))
+performed (capture x) h t s = captured x s
+performed (setext x) h t s = absurd (loud h)
+performed (mode x) h t s = moded x s
+performed (wait x) h t s = awaited x t s
+performed (column x) h t s = counted x t s
+performed (medium x) h t s = absurd (loud h)
+performed (retain x) h t s = absurd (loud h)
+
+-- ---- commands
+
+alone : (s : State) (ok : Bool) (o : Outcome State) → Leaves s o → Leaves s (one ok o)
+alone s ok o k = record { leaves = λ u p. k .leaves u (done ok o u p .went) }
+
 pub rests : (c : Command) → isQuiet c ≡ true → (t : Turn) (s : State) → Leaves s (within c t s)
-unfolding within exec
+unfolding within
+rests nothing h t s = alone s true (go s) (to s s (same s))
+rests (step x) h t s = alone s (inOrder x s) (perform x t s) (performed x h t s)
 rests (c ▸ d) h t s = chain s (within c t s) (λ u. within d t u) (rests c (and-left (isQuiet c) (isQuiet d) h) t s) (λ v. rests d (and-right (isQuiet c) (isQuiet d) h) t v)
 rests (whether q c d) h t s =
     binds s (test q t s) (elim [ true ↦ within c t s | false ↦ within d t s ])
     (either s (within c t s) (within d t s) (rests c (and-left (isQuiet c) (isQuiet d) h) t s) (rests d (and-right (isQuiet c) (isQuiet d) h) t s))
 rests (missingCells c) h t s = binds s (need (s .table .aligns)) _ (λ aligns. repeats (length aligns - s .table .column) (λ u. within c t u) (λ v. rests c h t v) s)
-rests nothing h t s = alone s _ (to s s (same s))
-rests (put text) h t s = alone s _ (to s _ (pushed _ s))
-rests slice h t s = alone s _ (binds s (ownStr t) _ (λ b. to s _ (encoded _ s)))
-rests chunk h t s = alone s _ (binds s (ownStr t) _ (λ b. to s _ (encoded _ s)))
-rests reference h t s = alone s _ (binds s (need (s .waiting .marker)) _ (λ m. binds s (ownStr t) _ (λ b. binds s (need (referenceOf m b)) _ (λ c. to s _ (onward (record { media = refl; labels = refl; kept = refl; setext = refl }) (encoded c _))))))
-rests (url scheme) h t s = alone s _ (binds s (ownStr t) _ (λ b. to s _ (pushed _ s)))
-rests rank h t s = alone s _ (binds s (need (s .waiting .rank)) _ (λ n. to s _ (pushed _ s)))
-rests start h t s = alone s _ (binds s (ownStr t >>= startOf) _ (λ b. to s _ (pushed b s)))
-rests alignment h t s = alone s _ (binds s (need (s .table .aligns)) _ (λ aligns. binds s (need (getElem? aligns (s .table .column))) _ (λ a. to s _ (pushed _ s))))
-rests lineEnding h t s = alone s _ (to s _ (ended s))
-rests lineEndingIfNeeded h t s = alone s _ (to s _ (ended-if s))
-rests buffer h t s = alone s _ (to s _ (opened s))
-rests drop h t s = alone s _ (taken s _ (λ b cs. to s _ (record { media = refl; labels = refl; kept = refl; setext = refl })))
-rests (resume before after) h t s = alone s _ (taken s _ (λ b cs. to s _ (onward (record { media = refl; labels = refl; kept = refl; setext = refl }) (pushed _ _))))
-rests resumeCode h t s = alone s _ (taken s _ (λ b cs. binds s (asStr (codeOf (s .table .aligns) b)) _ (λ code. to s _ (onward (record { media = refl; labels = refl; kept = refl; setext = refl }) (pushed code _)))))
-rests (set flag x) h t s = alone s _ (to s _ (record { media = refl; labels = refl; kept = refl; setext = refl }))
-rests (tighten x) h t s = alone s _ (to s _ (record { media = refl; labels = refl; kept = refl; setext = refl }))
-rests loosen h t s = alone s _ (to s _ (record { media = refl; labels = refl; kept = refl; setext = refl }))
-rests keepRank h t s = alone s _ (binds s (sliceOf (t .text) (spanOf (t .event))) _ (λ b. to s _ (record { media = refl; labels = refl; kept = refl; setext = refl })))
-rests forgetRank h t s = alone s _ (to s _ (record { media = refl; labels = refl; kept = refl; setext = refl }))
-rests (seenData x) h t s = alone s _ (to s _ (record { media = refl; labels = refl; kept = refl; setext = refl }))
-rests (fences x) h t s = alone s _ (to s _ (record { media = refl; labels = refl; kept = refl; setext = refl }))
-rests countFence h t s = alone s _ (binds s (need (s .waiting .fences)) _ (λ n. to s _ (record { media = refl; labels = refl; kept = refl; setext = refl })))
-rests (marker m) h t s = alone s _ (to s _ (record { media = refl; labels = refl; kept = refl; setext = refl }))
-rests (first x) h t s = alone s _ (to s _ (record { media = refl; labels = refl; kept = refl; setext = refl }))
-rests columns h t s = alone s _ (to s _ (record { media = refl; labels = refl; kept = refl; setext = refl }))
-rests noColumns h t s = alone s _ (to s _ (record { media = refl; labels = refl; kept = refl; setext = refl }))
-rests nextColumn h t s = alone s _ (to s _ (record { media = refl; labels = refl; kept = refl; setext = refl }))
-rests firstColumn h t s = alone s _ (to s _ (record { media = refl; labels = refl; kept = refl; setext = refl }))
-rests leaveImage h t s = alone s _ (left s)
-rests (show part) h t s = alone s _ (binds s (newestMedia s) _ (λ (m, ms). binds s (partText part (t .options) (s .kept .definitions) m) _ (λ b. to s _ (pushed b s))))
-rests hold h t s = absurd (loud h)
-rests release h t s = absurd (loud h)
-rests (openMedia image) h t s = absurd (loud h)
-rests closeMedia h t s = absurd (loud h)
-rests (store part) h t s = absurd (loud h)
-rests emptyDestination h t s = absurd (loud h)
-rests (identify id) h t s = absurd (loud h)
-rests seekDefinition h t s = absurd (loud h)
-rests keepDefinition h t s = absurd (loud h)
-rests footnoteLabel h t s = absurd (loud h)
-rests keepFootnote h t s = absurd (loud h)
-rests call h t s = absurd (loud h)

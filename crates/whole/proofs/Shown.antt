@@ -17,7 +17,9 @@ use Rattle.machine.specs.Buffers.{push, takeCapture}
 use Rattle.machine.specs.Turn.{Turn}
 use Rattle.machine.specs.Media.{newestMedia, anyImage, leaveAlt}
 use Rattle.machine.specs.Totals.{size, mediaSizes, held}
-use Rattle.machine.specs.Command.{Command, set, hold, release, leaveImage, exec}
+use Rattle.machine.specs.Command.{Command, exec}
+use Rattle.machine.specs.Words.{set, hold, release, leaveImage}
+use Rattle.machine.proofs.Outcomes.{never}
 use Rattle.bounded.specs.Within.{fitting, one, within}
 use Rattle.bounded.proofs.Bounds.{done}
 use Rattle.regions.specs.Regions.{regionAt}
@@ -26,9 +28,7 @@ use Rattle.buffers.specs.Stand as Stand
 use Rattle.resume.proofs.Parts.{drop-take}
 use Rattle.context.specs.declared.Context.{Context}
 use Rattle.context.specs.Rel.{Rel, Any, Sets}
-use Rattle.context.proofs.Plain.{never}
 use Rattle.context.proofs.Laws.{withBuffers, pushing}
-use Rattle.context.proofs.Commands.{first-goes}
 use Rattle.links.specs.declared.Links.{Links}
 use Rattle.links.specs.declared.Piece.{Piece}
 use Rattle.links.specs.declared.Text.{Text}
@@ -71,7 +71,7 @@ shown {text} {t} {b} {w} {x} {work′} {out′} s k y =
 -- ---- a setext heading's text
 
 alike-setext : (x : Option (List ℕ)) (s : State) → Alike s (setSetext x s)
-alike-setext x s = record { page = refl; captures = refl; flags = refl; rank = refl; seen = refl; fences = refl; marker = refl; first = refl; tight = refl; table = refl; ending = refl }
+alike-setext x s = record { page = refl; captures = refl; flags = refl; rank = refl; seen = refl; fences = refl; marker = refl; first = refl; tight = refl; table = refl; fixed = refl }
 
 pub holds : {View : Turn → Type 0} {b : Whole} {work starts work′ : List ℕ} {l : Links} {x : Buffers}
     → Holds (b .context .buffers .start) (b .context .buffers .end - b .context .buffers .start) (b .links) work l work′ → Stand.Drops (b .context .buffers) starts x → length work′ ≡ length work

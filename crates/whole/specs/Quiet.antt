@@ -2,55 +2,24 @@
 use mathlib.Core.Path.{_≡_}
 use mathlib.Core.Bool.{Bool, true, false, _&&_}
 use Rattle.machine.specs.State.{State}
-use Rattle.machine.specs.Command.{Command, _▸_, whether, missingCells, nothing, put, slice, chunk, reference, url, rank, start, alignment, lineEnding, lineEndingIfNeeded, buffer, drop, resume, resumeCode, set, tighten, loosen, keepRank, forgetRank, seenData, fences, countFence, marker, first, columns, noColumns, nextColumn, firstColumn, leaveImage, show, hold, release, openMedia, closeMedia, store, emptyDestination, identify, seekDefinition, keepDefinition, footnoteLabel, keepFootnote, call}
+use Rattle.machine.specs.Command.{Command, nothing, step, _▸_, whether, missingCells, Step, write, capture, setext, mode, wait, column, medium, retain}
+
+abbrev pub quietStep : Step → Bool
+quietStep (write x) = true
+quietStep (capture x) = true
+quietStep (setext x) = false
+quietStep (mode x) = true
+quietStep (wait x) = true
+quietStep (column x) = true
+quietStep (medium x) = false
+quietStep (retain x) = false
 
 abbrev pub isQuiet : Command → Bool
+isQuiet nothing = true
+isQuiet (step x) = quietStep x
 isQuiet (c ▸ d) = isQuiet c && isQuiet d
 isQuiet (whether q c d) = isQuiet c && isQuiet d
 isQuiet (missingCells c) = isQuiet c
-isQuiet nothing = true
-isQuiet (put text) = true
-isQuiet slice = true
-isQuiet chunk = true
-isQuiet reference = true
-isQuiet (url scheme) = true
-isQuiet rank = true
-isQuiet start = true
-isQuiet alignment = true
-isQuiet lineEnding = true
-isQuiet lineEndingIfNeeded = true
-isQuiet buffer = true
-isQuiet drop = true
-isQuiet (resume before after) = true
-isQuiet resumeCode = true
-isQuiet (set flag x) = true
-isQuiet (tighten x) = true
-isQuiet loosen = true
-isQuiet keepRank = true
-isQuiet forgetRank = true
-isQuiet (seenData x) = true
-isQuiet (fences x) = true
-isQuiet countFence = true
-isQuiet (marker m) = true
-isQuiet (first x) = true
-isQuiet columns = true
-isQuiet noColumns = true
-isQuiet nextColumn = true
-isQuiet firstColumn = true
-isQuiet leaveImage = true
-isQuiet (show part) = true
-isQuiet hold = false
-isQuiet release = false
-isQuiet (openMedia image) = false
-isQuiet closeMedia = false
-isQuiet (store part) = false
-isQuiet emptyDestination = false
-isQuiet (identify id) = false
-isQuiet seekDefinition = false
-isQuiet keepDefinition = false
-isQuiet footnoteLabel = false
-isQuiet keepFootnote = false
-isQuiet call = false
 
 pub record Rests (s u : State) : Type 0 where
   pub media : u .media ≡ s .media

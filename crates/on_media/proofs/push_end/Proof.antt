@@ -12,7 +12,7 @@ use Rattle.context.specs.Rel.{Any}
 use Rattle.whole.specs.Whole.{Always}
 use Rattle.machine.specs.Test.{isImage}
 use Rattle.machine.specs.Media.{title}
-use Rattle.machine.specs.Command.{when, put, show}
+use Rattle.machine.specs.Words.{when, put, show}
 
 is-alt-requires : tie.Need-is-alt-requires
 is-alt-requires c κs = search needs

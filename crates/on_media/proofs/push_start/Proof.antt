@@ -9,7 +9,8 @@ use Rattle.on_media.proofs.Chains.{then-shown, page-shown}
 use Rattle.show.proofs.Steady.{quiet-steady}
 use Rattle.machine.specs.Test.{isImage}
 use Rattle.machine.specs.Media.{destination}
-use Rattle.machine.specs.Command.{whether, put, show}
+use Rattle.machine.specs.Command.{whether}
+use Rattle.machine.specs.Words.{put, show}
 
 is-alt-requires : tie.Need-is-alt-requires
 is-alt-requires c κs = search needs

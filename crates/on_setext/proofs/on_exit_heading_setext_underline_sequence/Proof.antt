@@ -8,7 +8,8 @@ use Rattle.show.proofs.Steady.{quiet-steady, then-steady-page}
 use Rattle.show.proofs.Pages.{then-on-page, narrow-page, needs-page, same-within, regroup-four}
 use Rattle.on_setext.proofs.Dashes.{underlined}
 use Rattle.machine.specs.OnFlow.{setextRank, onExitHeadingSetextUnderlineSequence}
-use Rattle.machine.specs.Command.{_▸_, put, lineEndingIfNeeded, release}
+use Rattle.machine.specs.Command.{_▸_}
+use Rattle.machine.specs.Words.{put, lineEndingIfNeeded, release}
 
 is-dash-requires : tie.Need-is-dash-requires
 is-dash-requires c κs = search needs
