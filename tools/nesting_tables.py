@@ -11,7 +11,9 @@ PLAIN = [5, 6, 7]
 GROUPS = {tuple(FLOW): 'flow', tuple(INLINE): 'inline', tuple(PLAIN): 'plain'}
 
 # the same element in another place: 23 and 24 in 22, the second 29, 47 under 62
-OTHER = {66: 23, 67: 24, 68: 29, 69: 47}
+ITEM, PREFIX, FENCE, LABEL = range(NAMES, NAMES + 4)
+OTHER = {ITEM: 23, PREFIX: 24, FENCE: 29, LABEL: 47}
+WORDS = {ITEM: 'bulletItem', PREFIX: 'bulletPrefix', FENCE: 'secondFence', LABEL: 'callLabel'}
 
 
 def one(*kinds): return ('one', kinds)
@@ -28,22 +30,22 @@ RULES = [
     ([13], [one(14), opt(15), opt(14)]),
     ([16], [one(17), one(18)]),
     ([21], [one(23), any_of([23])]),
-    ([22], [one(66), any_of([66])]),
+    ([22], [one(ITEM), any_of([ITEM])]),
     ([23], [one(24), any_of(FLOW)]),
-    ([66], [one(67), any_of(FLOW)]),
+    ([ITEM], [one(PREFIX), any_of(FLOW)]),
     ([24], [one(26), one(25)]),
-    ([67], [one(25)]),
+    ([PREFIX], [one(25)]),
     ([27], [any_of([32])]),
-    ([28], [one(29), any_of([32]), opt(68)]),
+    ([28], [one(29), any_of([32]), opt(FENCE)]),
     ([29], [opt(30), opt(31)]),
-    ([68], []),
+    ([FENCE], []),
     ([33], [any_of([34])]),
     ([35], [any_of([36])]),
     ([37], [any_of([38])]),
     ([45, 46], [one(47), opt(49, 52)]),
-    ([62], [one(69)]),
+    ([62], [one(LABEL)]),
     ([47], [opt(48)]),
-    ([69], [one(48)]),
+    ([LABEL], [one(48)]),
     ([49], [opt(50), opt(51)]),
     ([53], [one(54), opt(55), opt(56)]),
     ([57], [one(58), opt(59)]),
@@ -105,7 +107,7 @@ def packed(found):
 def shown(state):
     if state is None:
         return 'shut'
-    def kinds(ks): return GROUPS.get(ks) or '(' + ' ∷ '.join([*map(str, ks), '[]']) + ')' if ks else '[]'
+    def kinds(ks): return GROUPS.get(ks) or '(' + ' ∷ '.join([*(WORDS.get(k, str(k)) for k in ks), '[]']) + ')' if ks else '[]'
     items = [f'{sort} {kinds(ks)}' for sort, ks in state]
     return 'rest (' + ' ∷ '.join([*items, '[]']) + ')' if items else 'rest []'
 

@@ -6,7 +6,7 @@ use Prim.Native.Nat.{ℕ, zero, suc, _≤_}
 use native.Mathlib.Omega.{arith}
 use lib.Dec.{T, eqb, eqb→eq}
 use lib.ListN.{length, length-append, drop}
-use Rattle.nesting.specs.Grammar.{nameOf}
+use Rattle.nesting.specs.Grammar.{nameOf, kindCount}
 use Rattle.machine.specs.State.{State, Media}
 use Rattle.machine.specs.Buffers.{pushTo, push}
 use Rattle.shape.specs.Shape.{Moves, Stack, still, changed, over, gone, unknown, Over, idle, allOf}
@@ -58,7 +58,7 @@ isLevel n k = let x = contractOf k .does in allOf (flat (x .captures) ∷ flat (
 abbrev agrees : ℕ → ℕ → Bool
 agrees n k = not (isFramed n k) || isLevel n k
 
-all-agree : (n : ℕ) → T (below 70 (agrees n))
+all-agree : (n : ℕ) → T (below kindCount (agrees n))
 unfolding contractOf lines
 all-agree zero = tt
 all-agree (suc n) = tt
@@ -77,7 +77,7 @@ lies-at n unknown bs ms t h = absurd t
 pub level-does : (n k : ℕ) (s u : State) → 5 ≤ nameOf k → T (isFramed n k) → Does (contractOf k .does) s u → Level n s u
 level-does n k s u l t d =
     let x = contractOf k .does in
-    let p = each (flat (x .captures) ∷ flat (x .tight) ∷ flat (x .labels) ∷ lies n (x .stack) ∷ []) (then (isFramed n k) (isLevel n k) (computed (agrees n) 70 (all-agree n) k (kind-below k l)) t) in
+    let p = each (flat (x .captures) ∷ flat (x .tight) ∷ flat (x .labels) ∷ lies n (x .stack) ∷ []) (then (isFramed n k) (isLevel n k) (computed (agrees n) kindCount (all-agree n) k (kind-below k l)) t) in
     record {
       buffers = flat-at Grew (x .captures) (buffersOf s) (buffersOf u) (p .0) (d .buffers);
       tight = flat-at Same (x .tight) (s .tight) (u .tight) (p .1 .0) (d .tight);

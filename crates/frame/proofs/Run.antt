@@ -6,7 +6,7 @@ use Prim.Native.Nat.{ℕ, _≤_}
 use native.Mathlib.Omega.{arith}
 use lib.Dec.{T}
 use Rattle.event.specs.declared.Event.{Event}
-use Rattle.nesting.specs.Grammar.{nameOf, holds}
+use Rattle.nesting.specs.Grammar.{nameOf, holds, kindCount}
 use Rattle.nesting.specs.Nests.{Takes}
 use Rattle.rules.specs.Elements.{Pair}
 use Rattle.machine.specs.declared.Options.{Options}
@@ -53,12 +53,12 @@ turn n b t c ts us tail x f s v e q g h r =
 
 -- ---- at the start of an element
 
-all-mild : T (below 70 (λ k. mild (begun (contractOf k) .waits)))
+all-mild : T (below kindCount (λ k. mild (begun (contractOf k) .waits)))
 unfolding contractOf lines
 all-mild = tt
 
 begins : (k : ℕ) (s : State) → 5 ≤ nameOf k → Holds (begun (contractOf k)) s s
-begins k s l = holds-start (begun (contractOf k) .waits) (begun (contractOf k) .media) s (computed (λ k. mild (begun (contractOf k) .waits)) 70 all-mild k (kind-below k l))
+begins k s l = holds-start (begun (contractOf k) .waits) (begun (contractOf k) .media) s (computed (λ k. mild (begun (contractOf k) .waits)) kindCount all-mild k (kind-below k l))
 
 module _ (text : List ℕ) (o : Options) where
   -- 0 to 4

@@ -15,6 +15,7 @@ use Rattle.machine.specs.Buffers.{push}
 use Rattle.machine.specs.Run.{passFrom}
 use Rattle.clean.specs.Turns.{through}
 use Rattle.shape.specs.Pass.{placed, behind, NoDefinition}
+use Rattle.nesting.specs.Grammar.{callLabel}
 
 -- From s to u the newest buffer (a capture, or the page) has only grown; the other buffers, the containers, the labels of open footnotes and the media, but for the newest n, are as they were.
 pub record Framed (n : ℕ) (s u : State) : Type 0 where
@@ -28,7 +29,7 @@ pub record Framed (n : ℕ) (s u : State) : Type 0 where
 -- Not framed are a footnote definition's prefix and the label in it: they leave behind the label, and the prefix the capture of the body, for the 63 around them.
 -- With n = 0 nor are the parts of a link, image, call or definition, which note in the newest medium what they say: with n = 1 they are. A kind is a name, or one of 66 to 69: see crate nesting.
 abbrev pub isFramed : (n : ℕ) → (kind : ℕ) → Bool
-isFramed zero k = not (oneOf (64 ∷ 65 ∷ 47 ∷ 69 ∷ 48 ∷ 49 ∷ 50 ∷ 51 ∷ 52 ∷ 54 ∷ 55 ∷ 56 ∷ []) k)
+isFramed zero k = not (oneOf (64 ∷ 65 ∷ 47 ∷ callLabel ∷ 48 ∷ 49 ∷ 50 ∷ 51 ∷ 52 ∷ 54 ∷ 55 ∷ 56 ∷ []) k)
 isFramed (suc n) k = not (oneOf (64 ∷ 65 ∷ []) k)
 
 -- THE FRAME LEMMA of the elements in a forest: in either pass, wherever they stand (inside a definition or not) and whatever the state s is there, a run to v over their events and those behind is in a state u between the two, and from s to u all is framed.

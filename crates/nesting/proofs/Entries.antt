@@ -10,7 +10,7 @@ use lib.ListN.{length, getD}
 use Rattle.lent.proofs.Computed.{and-left, and-right, allBelow, computed}
 use Rattle.nesting.specs.declared.Entry.{Entry}
 use Rattle.nesting.specs.declared.Entry.the-variants.{Refused, Into}
-use Rattle.nesting.specs.Grammar.{Item-discrete}
+use Rattle.nesting.specs.Grammar.{Item-discrete, nameCount}
 use Rattle.nesting.specs.Pass.{Rest, Rest-discrete, Turn, refused, entered, turn, mayEnd}
 use Rattle.nesting.specs.Tables.{state, IsState, Enters, looked, flag, Tables}
 
@@ -61,9 +61,9 @@ enters-by (entered inside behind) Refused p = p
 enters-by (entered inside behind) (Into x y) p = (is-state inside x (and-left (is inside x) (is behind y) p), is-state behind y (and-right (is inside x) (is behind y) p))
 
 module _ (ss es : List ℕ) where
-  -- 66 names to a state
+  -- all names to a state
   abbrev pub right : ℕ → Bool
-  right k = entersBy (turn (state (k / 66)) (k % 66)) (looked ss es (k / 66) (k % 66))
+  right k = entersBy (turn (state (k / nameCount)) (k % nameCount)) (looked ss es (k / nameCount) (k % nameCount))
 
   abbrev pub placed : ℕ → Bool
   placed q = leb (getD ss (q * 2) 0) 39
@@ -71,7 +71,7 @@ module _ (ss es : List ℕ) where
   abbrev pub flagged : ℕ → Bool
   flagged q = eqb (getD ss (q * 2 + 1) 0) (flag (mayEnd (state q)))
 
-  pub tested : length ss ≡ 96 → length es ≡ 315 → T (allBelow 48 placed) → T (allBelow 48 flagged) → allBelow 3168 right ≡ true → Tables ss es
+  pub tested : length ss ≡ 96 → length es ≡ (39 + nameCount) * 3 → T (allBelow 48 placed) → T (allBelow 48 flagged) → allBelow (48 * nameCount) right ≡ true → Tables ss es
   tested l m f g h =
       record {
         rows = record {
@@ -83,8 +83,8 @@ module _ (ss es : List ℕ) where
         agree = λ q n a b. enters-by (turn (state q) n) (looked ss es q n) (row q n a b);
       }
     where
-      row : (q n : ℕ) → q < 48 → n < 66 → T (entersBy (turn (state q) n) (looked ss es q n))
+      row : (q n : ℕ) → q < 48 → n < nameCount → T (entersBy (turn (state q) n) (looked ss es q n))
       row q n a b =
-          let d : (q * 66 + n) / 66 ≡ q = omega arith in
-          let m : (q * 66 + n) % 66 ≡ n = omega arith in
-          rw (d, m) at (computed right 3168 (rw h tt) (q * 66 + n) (omega arith))
+          let d : (q * nameCount + n) / nameCount ≡ q = omega arith in
+          let m : (q * nameCount + n) % nameCount ≡ n = omega arith in
+          rw (d, m) at (computed right (48 * nameCount) (rw h tt) (q * nameCount + n) (omega arith))

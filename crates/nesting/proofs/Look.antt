@@ -13,11 +13,12 @@ use Rattle.nesting.specs.declared.Exit.the-variants.{Stays, To}
 use Rattle.nesting.specs.Pass.{Rest, Turn, refused, entered, turn, mayEnd, Open, leave}
 use Rattle.nesting.specs.Tables.{state, flag, placeOf, looked, Enters, Leaves, States, Tables}
 use Rattle.nesting.proofs.Step.{no-turn}
+use Rattle.nesting.specs.Grammar.{nameCount}
 
 -- ---- an element
 
 module _ {ss es : List ℕ} (tables : Tables ss es) (q n : ℕ) (known : q < 48) where
-  by-look : {r : Entry} → n ≤ 65 → r ≡ looked ss es q n → Enters (turn (state q) n) r
+  by-look : {r : Entry} → n < nameCount → r ≡ looked ss es q n → Enters (turn (state q) n) r
   by-look h e = rw e (tables .agree q n known (omega arith))
 
   pub in-shut : n ≤ 4 → q ≡ 0 → Enters (turn (state q) n) Refused
@@ -29,10 +30,10 @@ module _ {ss es : List ℕ} (tables : Tables ss es) (q n : ℕ) (known : q < 48)
   pub of-empty : n ≤ 4 → (q ≡ 0 → ⊥) → 2 < n → Enters (turn (state q) n) (Into 0 q)
   of-empty h e k = by-look (omega arith) (rw (le-leb n 4 h, ne-eqb q 0 e, lt-leb n 2 k))
 
-  pub of-none : 65 < n → Enters (turn (state q) n) Refused
+  pub of-none : nameCount ≤ n → Enters (turn (state q) n) Refused
   of-none h = rw (no-turn (state q) n h) tt
 
-  module _ (at : ℕ) (here : at ≡ placeOf ss q n) (over : 4 < n) (under : n ≤ 65) where
+  module _ (at : ℕ) (here : at ≡ placeOf ss q n) (over : 4 < n) (under : n < nameCount) where
     pub of-other : (getD es at 0 ≡ q → ⊥) → Enters (turn (state q) n) Refused
     of-other e = by-look under (rw (lt-leb n 4 over, ← here, ne-eqb (getD es at 0) q e))
 

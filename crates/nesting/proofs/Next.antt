@@ -3,13 +3,13 @@ use mathlib.Core.Path.{_≡_, refl, sym, ap, _∙_}
 use mathlib.Core.Logic.{_⊎_, inl, inr, ⊎-elim}
 use mathlib.Core.Bool.{Bool, true, false, or-true, or-false, false≢true}
 use mathlib.Core.List.{List, [], _∷_}
-use Prim.Native.Nat.{ℕ, zero, suc, _-_, _<_}
+use Prim.Native.Nat.{ℕ, zero, suc, _-_, _≤_, _<_}
 use native.Mathlib.Omega.{arith}
 use lib.Dec.{eqb, ltb}
 use lib.ListN.{getD}
 use borrow.Author.Tests.{eq-eqb, eqb-true, ltb-true}
 use Rattle.lent.specs.Bytes.{if_then_else_, oneOf}
-use Rattle.nesting.specs.Grammar.{Item, one, opt, any, chain, nameOf}
+use Rattle.nesting.specs.Grammar.{Item, one, opt, any, chain, nameOf, nameCount, secondNames}
 use Rattle.nesting.specs.Nests.{Takes, nothing, one-taken, opt-none, opt-taken, any-none, any-taken, chain-none, chain-taken}
 use Rattle.nesting.specs.Pass.{Taken, refuse, take, among, next, done}
 
@@ -65,22 +65,22 @@ ends (chain ks ∷ is) e = chain-none (ends is e)
 
 -- ---- names
 
-other-name : (j : ℕ) → getD (23 ∷ 24 ∷ 29 ∷ 47 ∷ []) j 0 < 66
+other-name : (j : ℕ) → getD secondNames j 0 < nameCount
 other-name zero = omega arith
 other-name (suc zero) = omega arith
 other-name (suc (suc zero)) = omega arith
 other-name (suc (suc (suc zero))) = omega arith
 other-name (suc (suc (suc (suc j)))) = omega arith
 
-name-below : (k : ℕ) → nameOf k < 66
-name-below k = pick (ltb k 66) refl
+name-below : (k : ℕ) → nameOf k < nameCount
+name-below k = pick (ltb k nameCount) refl
   where
-    pick : (t : Bool) → ltb k 66 ≡ t → (if t then k else getD (23 ∷ 24 ∷ 29 ∷ 47 ∷ []) (k - 66) 0) < 66
-    pick true p = ltb-true k 66 p
-    pick false p = other-name (k - 66)
+    pick : (t : Bool) → ltb k nameCount ≡ t → (if t then k else getD secondNames (k - nameCount) 0) < nameCount
+    pick true p = ltb-true k nameCount p
+    pick false p = other-name (k - nameCount)
 
--- names from 66 on are none
-pub no-name : (q : List Item) (n : ℕ) → 65 < n → next q n ≡ refuse
+-- others are no names
+pub no-name : (q : List Item) (n : ℕ) → nameCount ≤ n → next q n ≡ refuse
 no-name q n h = pick (next q n) refl
   where
     pick : (t : Taken) → next q n ≡ t → t ≡ refuse

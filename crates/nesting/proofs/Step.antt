@@ -14,6 +14,7 @@ use Rattle.nesting.specs.Tag.{Tag, enter, exit}
 use Rattle.nesting.specs.Pass as P
 use Rattle.nesting.specs.Pass.{Rest, shut, rest, Turn, refused, entered, turn, mayEnd, Open, Step, stop, go, opened, leave, step, nestFrom}
 use Rattle.nesting.proofs.Next.{no-name}
+use Rattle.nesting.specs.Grammar.{nameCount}
 
 -- ---- the end
 
@@ -32,7 +33,7 @@ pub stops : (i : ℕ) (t : Tag) (ts : List Tag) (r : Rest) (os : List Open) → 
 unfolding nestFrom
 stops i t ts r os e = rw (e, nestFrom)
 
-pub no-turn : (r : Rest) (n : ℕ) → 65 < n → turn r n ≡ refused
+pub no-turn : (r : Rest) (n : ℕ) → nameCount ≤ n → turn r n ≡ refused
 unfolding turn
 no-turn shut n h = refl
 no-turn (rest is) n h = rw (lt-leb n 2 (omega arith), lt-leb n 4 (omega arith), no-name is n h)

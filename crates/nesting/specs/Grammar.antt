@@ -1,6 +1,6 @@
 -- 01's rules of nesting: what each element holds, in order. Assumes nothing.
 use mathlib.Core.List.{List, [], _∷_}
-use Prim.Native.Nat.{ℕ, _-_}
+use Prim.Native.Nat.{ℕ, _+_, _-_}
 use lib.Dec.{ltb}
 use lib.ListN.{getD}
 use Rattle.lent.specs.Bytes.{if_then_else_, oneOf}
@@ -23,10 +23,35 @@ inline = 5 ∷ 6 ∷ 7 ∷ 33 ∷ 37 ∷ 39 ∷ 40 ∷ 41 ∷ 42 ∷ 43 ∷ 44 �
 abbrev pub plain : List ℕ
 plain = 5 ∷ 6 ∷ 7 ∷ []
 
--- A kind is a name, or one of four that name the same element in another place:
--- 66 an item, and 67 its prefix, in an unordered list; 68 a second fence; 69 the label of a footnote call.
+-- names are 0 to 65
+abbrev pub nameCount : ℕ
+nameCount = 66
+
+-- A kind is a name, or one of four behind the names, which name the same element in another place: an item of an unordered list,
+abbrev pub bulletItem : ℕ
+bulletItem = nameCount
+
+-- its prefix,
+abbrev pub bulletPrefix : ℕ
+bulletPrefix = nameCount + 1
+
+-- a second fence,
+abbrev pub secondFence : ℕ
+secondFence = nameCount + 2
+
+-- and the label of a footnote call
+abbrev pub callLabel : ℕ
+callLabel = nameCount + 3
+
+abbrev pub kindCount : ℕ
+kindCount = nameCount + 4
+
+-- the names of these four
+abbrev pub secondNames : List ℕ
+secondNames = 23 ∷ 24 ∷ 29 ∷ 47 ∷ []
+
 abbrev pub nameOf : ℕ → ℕ
-nameOf k = if ltb k 66 then k else getD (23 ∷ 24 ∷ 29 ∷ 47 ∷ []) (k - 66) 0
+nameOf k = if ltb k nameCount then k else getD secondNames (k - nameCount) 0
 
 pub record Rule : Type 0 where
   pub kinds : List ℕ
@@ -48,22 +73,22 @@ rules =
     ∷ rule (13 ∷ []) (one (14 ∷ []) ∷ opt (15 ∷ []) ∷ opt (14 ∷ []) ∷ [])
     ∷ rule (16 ∷ []) (one (17 ∷ []) ∷ one (18 ∷ []) ∷ [])
     ∷ rule (21 ∷ []) (some (23 ∷ []))
-    ∷ rule (22 ∷ []) (some (66 ∷ []))
+    ∷ rule (22 ∷ []) (some (bulletItem ∷ []))
     ∷ rule (23 ∷ []) (one (24 ∷ []) ∷ any flow ∷ [])
-    ∷ rule (66 ∷ []) (one (67 ∷ []) ∷ any flow ∷ [])
+    ∷ rule (bulletItem ∷ []) (one (bulletPrefix ∷ []) ∷ any flow ∷ [])
     ∷ rule (24 ∷ []) (one (26 ∷ []) ∷ one (25 ∷ []) ∷ [])
-    ∷ rule (67 ∷ []) (one (25 ∷ []) ∷ [])
+    ∷ rule (bulletPrefix ∷ []) (one (25 ∷ []) ∷ [])
     ∷ rule (27 ∷ []) (any (32 ∷ []) ∷ [])
-    ∷ rule (28 ∷ []) (one (29 ∷ []) ∷ any (32 ∷ []) ∷ opt (68 ∷ []) ∷ [])
+    ∷ rule (28 ∷ []) (one (29 ∷ []) ∷ any (32 ∷ []) ∷ opt (secondFence ∷ []) ∷ [])
     ∷ rule (29 ∷ []) (opt (30 ∷ []) ∷ opt (31 ∷ []) ∷ [])
-    ∷ rule (68 ∷ []) []
+    ∷ rule (secondFence ∷ []) []
     ∷ rule (33 ∷ []) (any (34 ∷ []) ∷ [])
     ∷ rule (35 ∷ []) (any (36 ∷ []) ∷ [])
     ∷ rule (37 ∷ []) (any (38 ∷ []) ∷ [])
     ∷ rule (45 ∷ 46 ∷ []) (one (47 ∷ []) ∷ opt (49 ∷ 52 ∷ []) ∷ [])
-    ∷ rule (62 ∷ []) (one (69 ∷ []) ∷ [])
+    ∷ rule (62 ∷ []) (one (callLabel ∷ []) ∷ [])
     ∷ rule (47 ∷ []) (opt (48 ∷ []) ∷ [])
-    ∷ rule (69 ∷ []) (one (48 ∷ []) ∷ [])
+    ∷ rule (callLabel ∷ []) (one (48 ∷ []) ∷ [])
     ∷ rule (49 ∷ []) (opt (50 ∷ []) ∷ opt (51 ∷ []) ∷ [])
     ∷ rule (53 ∷ []) (one (54 ∷ []) ∷ opt (55 ∷ []) ∷ opt (56 ∷ []) ∷ [])
     ∷ rule (57 ∷ []) (one (58 ∷ []) ∷ opt (59 ∷ []) ∷ [])

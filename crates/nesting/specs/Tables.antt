@@ -11,7 +11,7 @@ use Rattle.nesting.specs.declared.Entry.{Entry}
 use Rattle.nesting.specs.declared.Entry.the-variants.{Refused, Into}
 use Rattle.nesting.specs.declared.Exit.{Exit}
 use Rattle.nesting.specs.declared.Exit.the-variants.{Stays, To}
-use Rattle.nesting.specs.Grammar.{one, opt, any, chain, flow, inline, plain}
+use Rattle.nesting.specs.Grammar.{one, opt, any, chain, flow, inline, plain, nameCount, bulletItem, bulletPrefix, secondFence, callLabel}
 use Rattle.nesting.specs.Pass.{Rest, shut, rest, Turn, refused, entered, turn, mayEnd}
 
 -- by its number: 0 is in 3 and 4, 1 the whole
@@ -33,15 +33,15 @@ states =
     ∷ rest (one (18 ∷ []) ∷ [])
     ∷ rest (one (23 ∷ []) ∷ any (23 ∷ []) ∷ [])
     ∷ rest (any (23 ∷ []) ∷ [])
-    ∷ rest (one (66 ∷ []) ∷ any (66 ∷ []) ∷ [])
-    ∷ rest (any (66 ∷ []) ∷ [])
+    ∷ rest (one (bulletItem ∷ []) ∷ any (bulletItem ∷ []) ∷ [])
+    ∷ rest (any (bulletItem ∷ []) ∷ [])
     ∷ rest (one (24 ∷ []) ∷ any flow ∷ [])
-    ∷ rest (one (67 ∷ []) ∷ any flow ∷ [])
+    ∷ rest (one (bulletPrefix ∷ []) ∷ any flow ∷ [])
     ∷ rest (one (26 ∷ []) ∷ one (25 ∷ []) ∷ [])
     ∷ rest (one (25 ∷ []) ∷ [])
     ∷ rest (any (32 ∷ []) ∷ [])
-    ∷ rest (one (29 ∷ []) ∷ any (32 ∷ []) ∷ opt (68 ∷ []) ∷ [])
-    ∷ rest (any (32 ∷ []) ∷ opt (68 ∷ []) ∷ [])
+    ∷ rest (one (29 ∷ []) ∷ any (32 ∷ []) ∷ opt (secondFence ∷ []) ∷ [])
+    ∷ rest (any (32 ∷ []) ∷ opt (secondFence ∷ []) ∷ [])
     ∷ rest (opt (30 ∷ []) ∷ opt (31 ∷ []) ∷ [])
     ∷ rest (opt (31 ∷ []) ∷ [])
     ∷ rest (any (34 ∷ []) ∷ [])
@@ -49,7 +49,7 @@ states =
     ∷ rest (any (38 ∷ []) ∷ [])
     ∷ rest (one (47 ∷ []) ∷ opt (49 ∷ 52 ∷ []) ∷ [])
     ∷ rest (opt (49 ∷ 52 ∷ []) ∷ [])
-    ∷ rest (one (69 ∷ []) ∷ [])
+    ∷ rest (one (callLabel ∷ []) ∷ [])
     ∷ rest (opt (48 ∷ []) ∷ [])
     ∷ rest (one (48 ∷ []) ∷ [])
     ∷ rest (opt (50 ∷ []) ∷ opt (51 ∷ []) ∷ [])
@@ -116,5 +116,5 @@ pub record States (states : List ℕ) : Type 0 where
 -- 3 bytes to an entry
 pub record Tables (states entries : List ℕ) : Type 0 where
   pub rows : States states
-  pub long : length entries ≡ 315
-  pub agree : (q n : ℕ) → q < 48 → n < 66 → Enters (turn (state q) n) (looked states entries q n)
+  pub long : length entries ≡ (39 + nameCount) * 3
+  pub agree : (q n : ℕ) → q < 48 → n < nameCount → Enters (turn (state q) n) (looked states entries q n)

@@ -2,6 +2,7 @@
 ghost use mathlib.Core.Path.{_≡_};
 ghost use Prim.Native.Nat.{_-_, _≤_, _<_};
 ghost use lib.ListN.{length, getD};
+ghost use Rattle.nesting.specs.Grammar.{nameCount};
 ghost use Rattle.nesting.specs.Pass.{turn, leave};
 ghost use Rattle.nesting.specs.Tables.{States, Tables, state, placeOf, Enters, Leaves};
 ghost use Rattle.nesting.specs.Moved.{Opens, Closes, Advances};
@@ -59,6 +60,9 @@ const ENTRIES: [u8; 315] = *b"\
     \xff\x00\x00\xff\x00\x00\xff\x00\x00\xff\x00\x00\xff\x00\x00\xff\x00\x00\xff\x00\x00\
 ";
 
+// Names are 0 to 65.
+const NAMES: u8 = 66;
+
 // Both tables, to be lent: a `const` would be built anew at each use.
 pub struct Lookup {
     pub states: [u8; 96],
@@ -89,7 +93,7 @@ fn enter(states: &[u8], entries: &[u8], here: u8, name: u8) -> Entry
         }
         return Entry::Into(0, here);
     }
-    if 65 < name {
+    if NAMES <= name {
         return Entry::Refused;
     }
     let at = entry_place(states, here, name);
@@ -102,7 +106,7 @@ fn enter(states: &[u8], entries: &[u8], here: u8, name: u8) -> Entry
 // Where the entry of a name lies.
 fn entry_place(states: &[u8], here: u8, name: u8) -> usize
     requires { ⌜ States (now states) ⌝ }
-    requires { ⌜ (here < 48) × (name ≤ 65) ⌝ }
+    requires { ⌜ (here < 48) × (name < nameCount) ⌝ }
     ensures { λ r. ⌜ (r ≡ placeOf (now (states .entry)) here name) × (r ≤ 312) ⌝ }
 {
     let row = states[(here as usize) * 2];

@@ -17,7 +17,7 @@ use Rattle.normalize_identifier.specs.Search.{firstSame}
 use Rattle.check_labels.specs.declared.Part.{Part}
 use Rattle.check_labels.specs.declared.Part.the-variants.{Slice, Nothing}
 use Rattle.check_labels.specs.Labels.{slice, identities, isDefined, unless, orElse}
-use Rattle.nesting.specs.Grammar.{nameOf, holds}
+use Rattle.nesting.specs.Grammar.{nameOf, holds, nameCount, secondNames}
 use Rattle.nesting.specs.Nests.{Takes}
 use Rattle.rules.specs.Elements.{Forest, nil, element, listOf, Pair, childOf, grandchildOf}
 use Rattle.rules.specs.Rules.{Meets, LabelMeets}
@@ -57,18 +57,18 @@ here-back before a f z es h = record { long = refl; same = sym (unwind-behind f 
 -- ---- kinds by their names
 
 pub kind-of : (k n : ℕ) → nameOf k ≡ n → oneOf (0 ∷ 23 ∷ 24 ∷ 29 ∷ 47 ∷ []) n ≡ false → k ≡ n
-kind-of k n e h = at (ltb k 66) refl
+kind-of k n e h = at (ltb k nameCount) refl
   where
-    other : (i : ℕ) → getD (23 ∷ 24 ∷ 29 ∷ 47 ∷ []) i 0 ≡ n → k ≡ n
+    other : (i : ℕ) → getD secondNames i 0 ≡ n → k ≡ n
     other zero q = clash {t = oneOf (0 ∷ 23 ∷ 24 ∷ 29 ∷ 47 ∷ []) n} (rw (sym q) refl) h
     other (suc zero) q = clash {t = oneOf (0 ∷ 23 ∷ 24 ∷ 29 ∷ 47 ∷ []) n} (rw (sym q) refl) h
     other (suc (suc zero)) q = clash {t = oneOf (0 ∷ 23 ∷ 24 ∷ 29 ∷ 47 ∷ []) n} (rw (sym q) refl) h
     other (suc (suc (suc zero))) q = clash {t = oneOf (0 ∷ 23 ∷ 24 ∷ 29 ∷ 47 ∷ []) n} (rw (sym q) refl) h
     other (suc (suc (suc (suc i)))) q = clash {t = oneOf (0 ∷ 23 ∷ 24 ∷ 29 ∷ 47 ∷ []) n} (rw (sym q) refl) h
 
-    at : (x : Bool) → ltb k 66 ≡ x → k ≡ n
+    at : (x : Bool) → ltb k nameCount ≡ x → k ≡ n
     at true q = let i : nameOf k ≡ k = rw q refl in sym i ∙ e
-    at false q = let i : nameOf k ≡ getD (23 ∷ 24 ∷ 29 ∷ 47 ∷ []) (k - 66) 0 = rw q refl in other (k - 66) (sym i ∙ e)
+    at false q = let i : nameOf k ≡ getD secondNames (k - nameCount) 0 = rw q refl in other (k - nameCount) (sym i ∙ e)
 
 -- ---- a sought label is found
 

@@ -13,7 +13,7 @@ use Rattle.event.specs.Event.{isEnter}
 use Rattle.check_labels.specs.declared.Part.the-variants.{Slice, Nothing}
 use Rattle.check_labels.specs.Labels.{slice, labelOf, identities}
 use Rattle.normalize_identifier.specs.Identity.{identityOf}
-use Rattle.nesting.specs.Grammar.{Item, one, opt, any, chain, nameOf, holds, rules, whole}
+use Rattle.nesting.specs.Grammar.{Item, one, opt, any, chain, nameOf, holds, rules, whole, kindCount}
 use Rattle.nesting.specs.Nests.{Takes, nothing, one-taken, opt-none, opt-taken, any-none, any-taken, chain-none, chain-taken}
 use Rattle.rules.specs.Elements.{Forest, nil, element, listOf, Paired}
 use Rattle.rules.specs.Rules.{enters}
@@ -134,7 +134,7 @@ weighs (chain-taken {k} r) t = let j = weighs r t in omega arith
 abbrev balanced : ℕ → Bool
 balanced k = light (holds k) && leb (most (holds k) + one? (eqb (nameOf k) 65)) (weight k + one? (eqb (nameOf k) 63))
 
-all-balanced : T (below 70 balanced)
+all-balanced : T (below kindCount balanced)
 unfolding holds rules
 all-balanced = tt
 
@@ -153,7 +153,7 @@ labels-few (through {a} {ks = ks} {ls} m r c d) =
 labels-few (child {a} {k = k} e l r w c d) =
     let i = labels-few c in
     let j = labels-few d in
-    let p = both (light (holds k)) (leb (most (holds k) + one? (eqb (nameOf k) 65)) (weight k + one? (eqb (nameOf k) 63))) (computed balanced 70 all-balanced k (kind-below k l)) in
+    let p = both (light (holds k)) (leb (most (holds k) + one? (eqb (nameOf k) 65)) (weight k + one? (eqb (nameOf k) 63))) (computed balanced kindCount all-balanced k (kind-below k l)) in
     let q = leb→le (most (holds k) + one? (eqb (nameOf k) 65)) (weight k + one? (eqb (nameOf k) 63)) (p .1) in
     let m = weighs w (p .0) in
     rw e (omega arith)

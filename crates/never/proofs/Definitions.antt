@@ -10,7 +10,7 @@ use lib.ListN.{length}
 use Rattle.lent.specs.Bytes.{if_then_else_, oneOf}
 use Rattle.event.specs.declared.Event.{Event}
 use Rattle.event.specs.Event.{isEnter, eventsOf}
-use Rattle.nesting.specs.Grammar.{nameOf}
+use Rattle.nesting.specs.Grammar.{nameOf, kindCount}
 use Rattle.rules.specs.Elements.{Forest}
 use Rattle.rules.specs.Rules.{Meets}
 use Rattle.rules.proofs.Before.{clash}
@@ -47,11 +47,11 @@ use Rattle.never.proofs.Left.{defined-kept, noted-kept, calls-kept}
 
 -- ---- what a definition holds asks little
 
-calm-names : T (below 70 (λ k. not (calm k) || not (oneOf (23 ∷ 45 ∷ 46 ∷ 53 ∷ 62 ∷ 63 ∷ 65 ∷ []) (nameOf k))))
+calm-names : T (below kindCount (λ k. not (calm k) || not (oneOf (23 ∷ 45 ∷ 46 ∷ 53 ∷ 62 ∷ 63 ∷ 65 ∷ []) (nameOf k))))
 calm-names = tt
 
 calm-not : (k : ℕ) → 5 ≤ nameOf k → T (calm k) → oneOf (23 ∷ 45 ∷ 46 ∷ 53 ∷ 62 ∷ 63 ∷ 65 ∷ []) (nameOf k) ≡ false
-calm-not k l t = at (calm k) (oneOf (23 ∷ 45 ∷ 46 ∷ 53 ∷ 62 ∷ 63 ∷ 65 ∷ []) (nameOf k)) t (computed (λ k. not (calm k) || not (oneOf (23 ∷ 45 ∷ 46 ∷ 53 ∷ 62 ∷ 63 ∷ 65 ∷ []) (nameOf k))) 70 calm-names k (kind-below k l))
+calm-not k l t = at (calm k) (oneOf (23 ∷ 45 ∷ 46 ∷ 53 ∷ 62 ∷ 63 ∷ 65 ∷ []) (nameOf k)) t (computed (λ k. not (calm k) || not (oneOf (23 ∷ 45 ∷ 46 ∷ 53 ∷ 62 ∷ 63 ∷ 65 ∷ []) (nameOf k))) kindCount calm-names k (kind-below k l))
   where
     at : (x y : Bool) → T x → T (not x || not y) → y ≡ false
     at true true i t = absurd t

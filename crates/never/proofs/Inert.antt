@@ -9,7 +9,7 @@ use lib.Dec.{T}
 use Rattle.lent.specs.Bytes.{oneOf}
 use Rattle.event.specs.declared.Event.{Event}
 use Rattle.event.specs.Event.{isEnter}
-use Rattle.nesting.specs.Grammar.{nameOf, holds, rules}
+use Rattle.nesting.specs.Grammar.{nameOf, holds, rules, nameCount, callLabel, kindCount}
 use Rattle.rules.specs.Elements.{Forest, Pair}
 use Rattle.machine.specs.Handlers.{rows}
 use Rattle.machine.specs.OnText.{onExitData, onExitCharacterReferenceMarker, onExitCharacterReferenceMarkerNumeric, onExitCharacterReferenceMarkerHexadecimal, onExitCharacterReferenceValue, onExitLineEnding, onExitBlankLineEnding, onEnterEmphasis, onExitEmphasis, onEnterStrong, onExitStrong, onExitBreak, onEnterRawText, onExitRawText, onEnterHtmlText, onEnterHtmlFlow, onExitHtml, onExitHtmlData, generateAutolink, onExitAutolinkEmail, onExitAutolinkProtocol}
@@ -36,7 +36,7 @@ enterEffects n = effectsOf (rowOf n .enter)
 abbrev pub exitEffects : ℕ → List Effect
 exitEffects n = effectsOf (rowOf n .exit)
 
-pub all-track : T (below 66 (λ n. tracks (rowOf n .enter) && tracks (rowOf n .exit)))
+pub all-track : T (below nameCount (λ n. tracks (rowOf n .enter) && tracks (rowOf n .exit)))
 unfolding tracks effectsOf rows onExitData onExitCharacterReferenceMarker onExitCharacterReferenceMarkerNumeric onExitCharacterReferenceMarkerHexadecimal onExitCharacterReferenceValue onExitLineEnding onExitBlankLineEnding onEnterEmphasis onExitEmphasis onEnterStrong onExitStrong onExitBreak onEnterRawText onExitRawText onEnterHtmlText onEnterHtmlFlow onExitHtml onExitHtmlData generateAutolink onExitAutolinkEmail onExitAutolinkProtocol onEnterParagraph onExitParagraph onEnterBlockQuote onExitBlockQuote onExitThematicBreak onExitHeadingAtxSequence onExitHeadingAtxText onExitHeadingAtx onExitHeadingSetextText setextRank onExitHeadingSetextUnderlineSequence onEnterCodeIndented onEnterRawFlow onExitRawFlowFence onExitRawFlowFenceInfo onExitRawFlowChunk onExitRawFlow onEnterList onExitList onEnterListItemMarker onExitListItemValue onExitListItem onEnterGfmTable onExitGfmTable onEnterGfmTableHead onExitGfmTableHead onEnterGfmTableBody onExitGfmTableBody onEnterGfmTableCell onExitGfmTableCell onEnterGfmTableRow onExitGfmTableRow onEnterBuffer onExitDrop onEnterLink onEnterImage onExitLabel onExitLabelText onExitReferenceString onEnterResource onEnterResourceDestinationString onExitResourceDestinationString onExitResourceTitleString onExitMedia onEnterDefinition onExitDefinitionLabelString onEnterDefinitionDestinationString onExitDefinitionDestinationString onExitDefinitionTitleString onExitDefinition onEnterGfmFootnoteCall onExitGfmFootnoteCall onEnterGfmFootnoteDefinition onExitGfmFootnoteDefinitionLabelString onExitGfmFootnoteDefinitionPrefix onExitGfmFootnoteDefinition
 all-track = tt
 
@@ -47,18 +47,18 @@ around k = isPush (enterEffects (nameOf k)) && popsLast (exitEffects (nameOf k))
 abbrev stays : ℕ → Bool
 stays k = (allEffects onlyTop (enterEffects (nameOf k)) && allEffects onlyTop (exitEffects (nameOf k))) || around k
 
-all-stay : T (below 70 stays)
+all-stay : T (below kindCount stays)
 unfolding effectsOf rows onExitData onExitCharacterReferenceMarker onExitCharacterReferenceMarkerNumeric onExitCharacterReferenceMarkerHexadecimal onExitCharacterReferenceValue onExitLineEnding onExitBlankLineEnding onEnterEmphasis onExitEmphasis onEnterStrong onExitStrong onExitBreak onEnterRawText onExitRawText onEnterHtmlText onEnterHtmlFlow onExitHtml onExitHtmlData generateAutolink onExitAutolinkEmail onExitAutolinkProtocol onEnterParagraph onExitParagraph onEnterBlockQuote onExitBlockQuote onExitThematicBreak onExitHeadingAtxSequence onExitHeadingAtxText onExitHeadingAtx onExitHeadingSetextText setextRank onExitHeadingSetextUnderlineSequence onEnterCodeIndented onEnterRawFlow onExitRawFlowFence onExitRawFlowFenceInfo onExitRawFlowChunk onExitRawFlow onEnterList onExitList onEnterListItemMarker onExitListItemValue onExitListItem onEnterGfmTable onExitGfmTable onEnterGfmTableHead onExitGfmTableHead onEnterGfmTableBody onExitGfmTableBody onEnterGfmTableCell onExitGfmTableCell onEnterGfmTableRow onExitGfmTableRow onEnterBuffer onExitDrop onEnterLink onEnterImage onExitLabel onExitLabelText onExitReferenceString onEnterResource onEnterResourceDestinationString onExitResourceDestinationString onExitResourceTitleString onExitMedia onEnterDefinition onExitDefinitionLabelString onEnterDefinitionDestinationString onExitDefinitionDestinationString onExitDefinitionTitleString onExitDefinition onEnterGfmFootnoteCall onExitGfmFootnoteCall onEnterGfmFootnoteDefinition onExitGfmFootnoteDefinitionLabelString onExitGfmFootnoteDefinitionPrefix onExitGfmFootnoteDefinition
 all-stay = tt
 
 -- no part of a medium
 abbrev pub inert : ℕ → Bool
-inert k = not (oneOf (47 ∷ 48 ∷ 49 ∷ 50 ∷ 52 ∷ 54 ∷ 55 ∷ 69 ∷ []) k)
+inert k = not (oneOf (47 ∷ 48 ∷ 49 ∷ 50 ∷ 52 ∷ 54 ∷ 55 ∷ callLabel ∷ []) k)
 
 abbrev idles : ℕ → Bool
 idles k = not (inert k) || ((everyItem inert (holds k) && (allEffects off (enterEffects (nameOf k)) && allEffects off (exitEffects (nameOf k)))) || around k)
 
-all-idle : T (below 70 idles)
+all-idle : T (below kindCount idles)
 unfolding effectsOf rows holds rules onExitData onExitCharacterReferenceMarker onExitCharacterReferenceMarkerNumeric onExitCharacterReferenceMarkerHexadecimal onExitCharacterReferenceValue onExitLineEnding onExitBlankLineEnding onEnterEmphasis onExitEmphasis onEnterStrong onExitStrong onExitBreak onEnterRawText onExitRawText onEnterHtmlText onEnterHtmlFlow onExitHtml onExitHtmlData generateAutolink onExitAutolinkEmail onExitAutolinkProtocol onEnterParagraph onExitParagraph onEnterBlockQuote onExitBlockQuote onExitThematicBreak onExitHeadingAtxSequence onExitHeadingAtxText onExitHeadingAtx onExitHeadingSetextText setextRank onExitHeadingSetextUnderlineSequence onEnterCodeIndented onEnterRawFlow onExitRawFlowFence onExitRawFlowFenceInfo onExitRawFlowChunk onExitRawFlow onEnterList onExitList onEnterListItemMarker onExitListItemValue onExitListItem onEnterGfmTable onExitGfmTable onEnterGfmTableHead onExitGfmTableHead onEnterGfmTableBody onExitGfmTableBody onEnterGfmTableCell onExitGfmTableCell onEnterGfmTableRow onExitGfmTableRow onEnterBuffer onExitDrop onEnterLink onEnterImage onExitLabel onExitLabelText onExitReferenceString onEnterResource onEnterResourceDestinationString onExitResourceDestinationString onExitResourceTitleString onExitMedia onEnterDefinition onExitDefinitionLabelString onEnterDefinitionDestinationString onExitDefinitionDestinationString onExitDefinitionTitleString onExitDefinition onEnterGfmFootnoteCall onExitGfmFootnoteCall onEnterGfmFootnoteDefinition onExitGfmFootnoteDefinitionLabelString onExitGfmFootnoteDefinitionPrefix onExitGfmFootnoteDefinition
 all-idle = tt
 
@@ -136,7 +136,7 @@ tops-stay (through {a} {z} {f = f} {g} m r c d) i is =
     let q = tops-stay d (p .0) is in
     (q .0, ap (λ (l : List Ids). idsOver g (idsRun z (effectsAt z) (idsOver f l))) (t .0) ∙ ap (idsOver g) (t .1 ∙ p .1) ∙ q .1)
 tops-stay (child {a} {z} {k} {f = f} {g} e l r w c d) i is =
-    let p = topped a z k e r f i is (computed stays 70 all-stay k (kind-below k l)) (λ i is. tops-stay c i is) in
+    let p = topped a z k e r f i is (computed stays kindCount all-stay k (kind-below k l)) (λ i is. tops-stay c i is) in
     let q = tops-stay d (p .0) is in
     (q .0, ap (idsOver g) (p .1) ∙ q .1)
 
@@ -149,7 +149,7 @@ all-same (through {a} {z} {ks} {ls} {f} {g} m r c d) t is =
     ap (λ (l : List Ids). idsOver g (idsRun z (effectsAt z) (idsOver f l))) (u .0) ∙ ap (idsOver g) (u .1 ∙ all-same c (p .0) is) ∙ all-same d (p .1) is
 all-same (child {a} {z} {k} {ls = ls} {f} {g} e l r w c d) t is =
     let p = both (inert k) (every inert ls) t in
-    let q = implied (inert k) ((everyItem inert (holds k) && (allEffects off (enterEffects (nameOf k)) && allEffects off (exitEffects (nameOf k)))) || around k) (computed idles 70 all-idle k (kind-below k l)) (p .0) in
+    let q = implied (inert k) ((everyItem inert (holds k) && (allEffects off (enterEffects (nameOf k)) && allEffects off (exitEffects (nameOf k)))) || around k) (computed idles kindCount all-idle k (kind-below k l)) (p .0) in
     let one : idsRun z (effectsAt z) (idsOver f (idsRun a (effectsAt a) is)) ≡ is =
     either (everyItem inert (holds k) && (allEffects off (enterEffects (nameOf k)) && allEffects off (exitEffects (nameOf k)))) (around k) q
     (λ u. let v = both (everyItem inert (holds k)) (allEffects off (enterEffects (nameOf k)) && allEffects off (exitEffects (nameOf k))) u in same a z k e r f is (v .1) (all-same c (kinds-taken inert w (v .0)) is))

@@ -12,7 +12,7 @@ use Rattle.normalize_identifier.specs.Identity.{identityOf}
 use Rattle.check_labels.specs.declared.Part.{Part}
 use Rattle.check_labels.specs.declared.Part.the-variants.{Slice, Nothing}
 use Rattle.check_labels.specs.Labels.{labelOf}
-use Rattle.nesting.specs.Grammar.{nameOf, holds, rules}
+use Rattle.nesting.specs.Grammar.{nameOf, holds, rules, kindCount}
 use Rattle.nesting.specs.Nests.{Takes}
 use Rattle.rules.specs.Elements.{Forest, nil, element, Paired}
 use Rattle.machine.specs.Turn.{spanOf}
@@ -36,16 +36,16 @@ plainKind k = oneOf (5 ∷ 6 ∷ 7 ∷ 8 ∷ 9 ∷ 10 ∷ 11 ∷ []) k
 abbrev definitionKind : ℕ → Bool
 definitionKind k = oneOf (5 ∷ 6 ∷ 7 ∷ 8 ∷ 9 ∷ 10 ∷ 11 ∷ 54 ∷ 55 ∷ 56 ∷ []) k
 
-plain-all : T (below 70 (λ k. not (plainKind k) || (everyItem plainKind (holds k) && not (eqb (nameOf k) 54))))
+plain-all : T (below kindCount (λ k. not (plainKind k) || (everyItem plainKind (holds k) && not (eqb (nameOf k) 54))))
 unfolding holds rules
 plain-all = tt
 
-definition-all : T (below 70 (λ k. not (definitionKind k) || (everyItem definitionKind (holds k) && not (eqb (nameOf k) 65))))
+definition-all : T (below kindCount (λ k. not (definitionKind k) || (everyItem definitionKind (holds k) && not (eqb (nameOf k) 65))))
 unfolding holds rules
 definition-all = tt
 
-closing : (c : ℕ → Bool) (n : ℕ) → T (below 70 (λ k. not (c k) || (everyItem c (holds k) && not (eqb (nameOf k) n)))) → (k : ℕ) → 5 ≤ nameOf k → T (c k) → T (everyItem c (holds k)) × (eqb (nameOf k) n ≡ false)
-closing c n t k l i = at (c k) (eqb (nameOf k) n) refl (computed (λ k. not (c k) || (everyItem c (holds k) && not (eqb (nameOf k) n))) 70 t k (kind-below k l)) i
+closing : (c : ℕ → Bool) (n : ℕ) → T (below kindCount (λ k. not (c k) || (everyItem c (holds k) && not (eqb (nameOf k) n)))) → (k : ℕ) → 5 ≤ nameOf k → T (c k) → T (everyItem c (holds k)) × (eqb (nameOf k) n ≡ false)
+closing c n t k l i = at (c k) (eqb (nameOf k) n) refl (computed (λ k. not (c k) || (everyItem c (holds k) && not (eqb (nameOf k) n))) kindCount t k (kind-below k l)) i
   where
     at : (x y : Bool) → eqb (nameOf k) n ≡ y → T (not x || (everyItem c (holds k) && not y)) → T x → T (everyItem c (holds k)) × (eqb (nameOf k) n ≡ false)
     at true true e t i = absurd (both (everyItem c (holds k)) false t .1)

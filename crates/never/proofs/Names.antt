@@ -19,6 +19,7 @@ use Rattle.shape.proofs.Test.{computed}
 use Rattle.never.specs.Values.{Effect, pushes, pops, names, refers, leads, seeks, defines, labels, notes, calls, unmarks, marks, effectsOf}
 use Rattle.never.specs.Ghost.{allEffects}
 use Rattle.never.proofs.Inert.{enterEffects, exitEffects}
+use Rattle.nesting.specs.Grammar.{nameCount}
 
 -- ---- effects that keep no slice; no marker; no definition; no footnote and no footnote's label; no call
 
@@ -92,11 +93,11 @@ uncalling calls = false
 uncalling unmarks = true
 uncalling (marks m) = true
 
-all-enters : T (below 66 (λ n. allEffects unspanned (enterEffects n) && (allEffects unmarked (enterEffects n) && (allEffects undefining (enterEffects n) && (allEffects unnoting (enterEffects n) && allEffects uncalling (enterEffects n))))))
+all-enters : T (below nameCount (λ n. allEffects unspanned (enterEffects n) && (allEffects unmarked (enterEffects n) && (allEffects undefining (enterEffects n) && (allEffects unnoting (enterEffects n) && allEffects uncalling (enterEffects n))))))
 unfolding effectsOf rows onExitData onExitCharacterReferenceMarker onExitCharacterReferenceMarkerNumeric onExitCharacterReferenceMarkerHexadecimal onExitCharacterReferenceValue onExitLineEnding onExitBlankLineEnding onEnterEmphasis onExitEmphasis onEnterStrong onExitStrong onExitBreak onEnterRawText onExitRawText onEnterHtmlText onEnterHtmlFlow onExitHtml onExitHtmlData generateAutolink onExitAutolinkEmail onExitAutolinkProtocol onEnterParagraph onExitParagraph onEnterBlockQuote onExitBlockQuote onExitThematicBreak onExitHeadingAtxSequence onExitHeadingAtxText onExitHeadingAtx onExitHeadingSetextText setextRank onExitHeadingSetextUnderlineSequence onEnterCodeIndented onEnterRawFlow onExitRawFlowFence onExitRawFlowFenceInfo onExitRawFlowChunk onExitRawFlow onEnterList onExitList onEnterListItemMarker onExitListItemValue onExitListItem onEnterGfmTable onExitGfmTable onEnterGfmTableHead onExitGfmTableHead onEnterGfmTableBody onExitGfmTableBody onEnterGfmTableCell onExitGfmTableCell onEnterGfmTableRow onExitGfmTableRow onEnterBuffer onExitDrop onEnterLink onEnterImage onExitLabel onExitLabelText onExitReferenceString onEnterResource onEnterResourceDestinationString onExitResourceDestinationString onExitResourceTitleString onExitMedia onEnterDefinition onExitDefinitionLabelString onEnterDefinitionDestinationString onExitDefinitionDestinationString onExitDefinitionTitleString onExitDefinition onEnterGfmFootnoteCall onExitGfmFootnoteCall onEnterGfmFootnoteDefinition onExitGfmFootnoteDefinitionLabelString onExitGfmFootnoteDefinitionPrefix onExitGfmFootnoteDefinition
 all-enters = tt
 
-all-exits : T (below 66 (λ n. (oneOf (8 ∷ 9 ∷ 10 ∷ []) n || allEffects unmarked (exitEffects n)) && ((eqb n 53 || allEffects undefining (exitEffects n)) && ((oneOf (63 ∷ 65 ∷ []) n || allEffects unnoting (exitEffects n)) && (eqb n 62 || allEffects uncalling (exitEffects n))))))
+all-exits : T (below nameCount (λ n. (oneOf (8 ∷ 9 ∷ 10 ∷ []) n || allEffects unmarked (exitEffects n)) && ((eqb n 53 || allEffects undefining (exitEffects n)) && ((oneOf (63 ∷ 65 ∷ []) n || allEffects unnoting (exitEffects n)) && (eqb n 62 || allEffects uncalling (exitEffects n))))))
 unfolding effectsOf rows onExitData onExitCharacterReferenceMarker onExitCharacterReferenceMarkerNumeric onExitCharacterReferenceMarkerHexadecimal onExitCharacterReferenceValue onExitLineEnding onExitBlankLineEnding onEnterEmphasis onExitEmphasis onEnterStrong onExitStrong onExitBreak onEnterRawText onExitRawText onEnterHtmlText onEnterHtmlFlow onExitHtml onExitHtmlData generateAutolink onExitAutolinkEmail onExitAutolinkProtocol onEnterParagraph onExitParagraph onEnterBlockQuote onExitBlockQuote onExitThematicBreak onExitHeadingAtxSequence onExitHeadingAtxText onExitHeadingAtx onExitHeadingSetextText setextRank onExitHeadingSetextUnderlineSequence onEnterCodeIndented onEnterRawFlow onExitRawFlowFence onExitRawFlowFenceInfo onExitRawFlowChunk onExitRawFlow onEnterList onExitList onEnterListItemMarker onExitListItemValue onExitListItem onEnterGfmTable onExitGfmTable onEnterGfmTableHead onExitGfmTableHead onEnterGfmTableBody onExitGfmTableBody onEnterGfmTableCell onExitGfmTableCell onEnterGfmTableRow onExitGfmTableRow onEnterBuffer onExitDrop onEnterLink onEnterImage onExitLabel onExitLabelText onExitReferenceString onEnterResource onEnterResourceDestinationString onExitResourceDestinationString onExitResourceTitleString onExitMedia onEnterDefinition onExitDefinitionLabelString onEnterDefinitionDestinationString onExitDefinitionDestinationString onExitDefinitionTitleString onExitDefinition onEnterGfmFootnoteCall onExitGfmFootnoteCall onEnterGfmFootnoteDefinition onExitGfmFootnoteDefinitionLabelString onExitGfmFootnoteDefinitionPrefix onExitGfmFootnoteDefinition
 all-exits = tt
 
@@ -108,9 +109,9 @@ pub record Enters (n : ℕ) : Type 0 where
   pub notes-not : T (allEffects unnoting (enterEffects n))
   pub calls-not : T (allEffects uncalling (enterEffects n))
 
-pub enters : (n : ℕ) → n < 66 → Enters n
+pub enters : (n : ℕ) → n < nameCount → Enters n
 enters n h =
-    let p = computed (λ n. allEffects unspanned (enterEffects n) && (allEffects unmarked (enterEffects n) && (allEffects undefining (enterEffects n) && (allEffects unnoting (enterEffects n) && allEffects uncalling (enterEffects n))))) 66 all-enters n h in
+    let p = computed (λ n. allEffects unspanned (enterEffects n) && (allEffects unmarked (enterEffects n) && (allEffects undefining (enterEffects n) && (allEffects unnoting (enterEffects n) && allEffects uncalling (enterEffects n))))) nameCount all-enters n h in
     let a = both (allEffects unspanned (enterEffects n)) (allEffects unmarked (enterEffects n) && (allEffects undefining (enterEffects n) && (allEffects unnoting (enterEffects n) && allEffects uncalling (enterEffects n)))) p in
     let b = both (allEffects unmarked (enterEffects n)) (allEffects undefining (enterEffects n) && (allEffects unnoting (enterEffects n) && allEffects uncalling (enterEffects n))) (a .1) in
     let c = both (allEffects undefining (enterEffects n)) (allEffects unnoting (enterEffects n) && allEffects uncalling (enterEffects n)) (b .1) in
@@ -128,9 +129,9 @@ unless : (x y : Bool) → T (x || y) → x ≡ false → T y
 unless true y t e = let z : _≡_ {A = ℕ} 0 1 = cc in absurd (omega arith)
 unless false y t e = t
 
-pub leaves : (n : ℕ) → n < 66 → Leaves n
+pub leaves : (n : ℕ) → n < nameCount → Leaves n
 leaves n h =
-    let p = computed (λ n. (oneOf (8 ∷ 9 ∷ 10 ∷ []) n || allEffects unmarked (exitEffects n)) && ((eqb n 53 || allEffects undefining (exitEffects n)) && ((oneOf (63 ∷ 65 ∷ []) n || allEffects unnoting (exitEffects n)) && (eqb n 62 || allEffects uncalling (exitEffects n))))) 66 all-exits n h in
+    let p = computed (λ n. (oneOf (8 ∷ 9 ∷ 10 ∷ []) n || allEffects unmarked (exitEffects n)) && ((eqb n 53 || allEffects undefining (exitEffects n)) && ((oneOf (63 ∷ 65 ∷ []) n || allEffects unnoting (exitEffects n)) && (eqb n 62 || allEffects uncalling (exitEffects n))))) nameCount all-exits n h in
     let a = both (oneOf (8 ∷ 9 ∷ 10 ∷ []) n || allEffects unmarked (exitEffects n)) ((eqb n 53 || allEffects undefining (exitEffects n)) && ((oneOf (63 ∷ 65 ∷ []) n || allEffects unnoting (exitEffects n)) && (eqb n 62 || allEffects uncalling (exitEffects n)))) p in
     let b = both (eqb n 53 || allEffects undefining (exitEffects n)) ((oneOf (63 ∷ 65 ∷ []) n || allEffects unnoting (exitEffects n)) && (eqb n 62 || allEffects uncalling (exitEffects n))) (a .1) in
     let c = both (oneOf (63 ∷ 65 ∷ []) n || allEffects unnoting (exitEffects n)) (eqb n 62 || allEffects uncalling (exitEffects n)) (b .1) in

@@ -8,7 +8,7 @@ use Prim.Native.Nat.{ℕ}
 use lib.Dec.{T, eqb}
 use borrow.Author.Tests.{eq-eqb}
 use Rattle.lent.specs.Bytes.{oneOf}
-use Rattle.nesting.specs.Grammar.{one, nameOf, holds, rules}
+use Rattle.nesting.specs.Grammar.{one, nameOf, holds, rules, callLabel}
 use Rattle.nesting.specs.Nests.{Takes}
 use Rattle.rules.specs.Elements.{Forest, childOf}
 use Rattle.shape.specs.Fits.{every}
@@ -75,7 +75,7 @@ module _ (x : Top) (i : Ids) (is : List Ids) where
   unfolding effectsOf rows onEnterBuffer onExitLabel onExitLabelText onEnterResource onExitDrop onEnterResourceDestinationString onExitResourceDestinationString onExitResourceTitleString onExitReferenceString onExitDefinitionLabelString onEnterDefinitionDestinationString onExitDefinitionDestinationString onExitDefinitionTitleString holds rules
   part-56 h = leaf x 56 h tt (i ∷ is)
 
--- ---- a label: 47, and 69 in a call
+-- ---- a label, and that of a call
 
 labelled : (f : Forest) (ks : List ℕ) → Kinds ks f → (ks ≡ []) ⊎ (ks ≡ 48 ∷ []) → (i : Ids) (is : List Ids) → idsOver f (i ∷ is) ≡ ids3 (orThat (childOf 48 f) (i .labelId)) (i .referenceId) (i .led) ∷ is
 labelled f ks c (inl e) i is =
@@ -97,17 +97,17 @@ inner-47 ks w =
       | inr (k, ds, m, e, r) ↦ inr (e ∙ rw (only 48 k m, takes-none ds r) refl)
     ]
 
-inner-69 : (ks : List ℕ) → Takes (holds 69) ks → (ks ≡ []) ⊎ (ks ≡ 48 ∷ [])
+inner-call : (ks : List ℕ) → Takes (holds callLabel) ks → (ks ≡ []) ⊎ (ks ≡ 48 ∷ [])
 unfolding holds rules
-inner-69 ks w = let o = takes-one (48 ∷ []) [] ks w in inr (o .3 ∙ rw (only 48 (o .0) (o .2), takes-none (o .1) (o .4)) refl)
+inner-call ks w = let o = takes-one (48 ∷ []) [] ks w in inr (o .3 ∙ rw (only 48 (o .0) (o .2), takes-none (o .1) (o .4)) refl)
 
 pub part-47 : (x : Top) (i : Ids) (is : List Ids) → IsKind 47 x → ran x (i ∷ is) ≡ ids3 (orThat (childOf 48 (x .inside)) (i .labelId)) (i .referenceId) (i .led) ∷ is
 unfolding effectsOf rows onEnterBuffer onExitLabel onExitLabelText onEnterResource onExitDrop onEnterResourceDestinationString onExitResourceDestinationString onExitResourceTitleString onExitReferenceString onExitDefinitionLabelString onEnterDefinitionDestinationString onExitDefinitionDestinationString onExitDefinitionTitleString
 part-47 x i is h = ran-as x 47 h (i ∷ is) ∙ labelled (x .inside) (h .inner) (h .kinds) (inner-47 (h .inner) (h .takes)) i is
 
-pub part-69 : (x : Top) (i : Ids) (is : List Ids) → IsKind 69 x → ran x (i ∷ is) ≡ ids3 (orThat (childOf 48 (x .inside)) (i .labelId)) (i .referenceId) (i .led) ∷ is
+pub part-call : (x : Top) (i : Ids) (is : List Ids) → IsKind callLabel x → ran x (i ∷ is) ≡ ids3 (orThat (childOf 48 (x .inside)) (i .labelId)) (i .referenceId) (i .led) ∷ is
 unfolding effectsOf rows onEnterBuffer onExitLabel onExitLabelText onEnterResource onExitDrop onEnterResourceDestinationString onExitResourceDestinationString onExitResourceTitleString onExitReferenceString onExitDefinitionLabelString onEnterDefinitionDestinationString onExitDefinitionDestinationString onExitDefinitionTitleString
-part-69 x i is h = ran-as x 69 h (i ∷ is) ∙ labelled (x .inside) (h .inner) (h .kinds) (inner-69 (h .inner) (h .takes)) i is
+part-call x i is h = ran-as x callLabel h (i ∷ is) ∙ labelled (x .inside) (h .inner) (h .kinds) (inner-call (h .inner) (h .takes)) i is
 
 -- ---- a resource: it leads
 

@@ -32,6 +32,7 @@ use Rattle.never.proofs.Count.{exits}
 use Rattle.never.proofs.Names.{unnoting, uncalling, enters, leaves}
 use Rattle.never.proofs.Tally.{tally-counted, tally-more}
 use Rattle.never.proofs.Left.{calls-kept, defined-kept, labels-kept, noted-kept}
+use Rattle.nesting.specs.Grammar.{nameCount}
 
 -- ---- footnotes: each label of one is kept, or waits for its end
 
@@ -90,7 +91,7 @@ module _ (text : List ℕ) (before : List Event) (e : Event) (es : List Event) (
 
 -- ---- a turn
 
-pub footed-turn : (text : List ℕ) (before : List Event) (e : Event) (es : List Event) (v : Values) → e .name < 66 → Footed text before (e ∷ es) v → Footed text (e ∷ before) es (doTo text e (effectsAt e) v)
+pub footed-turn : (text : List ℕ) (before : List Event) (e : Event) (es : List Event) (v : Values) → e .name < nameCount → Footed text before (e ∷ es) v → Footed text (e ∷ before) es (doTo text e (effectsAt e) v)
 footed-turn text before e es v l h = decide (isEnter e) entered exited
   where
     entered : isEnter e ≡ true → Footed text (e ∷ before) es (doTo text e (effectsAt e) v)
@@ -107,7 +108,7 @@ unfolding effectsOf rows onExitGfmFootnoteCall
 called-62 text e v = refl
 
 -- a call: of the newest medium's label
-pub tally-turn : (ids : List (List ℕ)) (text : List ℕ) (p : ℕ) (e : Event) (v : Values) → e .name < 66 → (isEnter e ≡ false → e .name ≡ 62 → (i : Ids) (is : List Ids) (q : Span) → v .ids ≡ i ∷ is → i .labelId ≡ some q → listed ids (identityOf (textOf text q)) ≡ true)
+pub tally-turn : (ids : List (List ℕ)) (text : List ℕ) (p : ℕ) (e : Event) (v : Values) → e .name < nameCount → (isEnter e ≡ false → e .name ≡ 62 → (i : Ids) (is : List Ids) (q : Span) → v .ids ≡ i ∷ is → i .labelId ≡ some q → listed ids (identityOf (textOf text q)) ≡ true)
     → Tally ids p (v .calls) → Tally ids (suc p) (doTo text e (effectsAt e) v .calls)
 tally-turn ids text p e v l k h = decide (isEnter e) (λ x. same (rw (enter-effects e (e .name) x refl) (enters (e .name) l .calls-not))) (λ x. decide (eqb (e .name) 62) (λ b. let n = eqb-true (e .name) 62 b in rw (exit-effects e 62 x n) (called (k x n))) (λ b. same (rw (exit-effects e (e .name) x refl) (leaves (e .name) l .calls-not b))))
   where
@@ -125,5 +126,5 @@ tally-turn ids text p e v l k h = decide (isEnter e) (λ x. same (rw (enter-effe
         add [] k = tally-more ids p (suc p) (v .calls) (omega arith) h
         add (i ∷ is) k = by i (i .labelId) refl (λ q e. k i is q refl e)
 
-pub defined-turn : (text : List ℕ) (e : Event) (v : Values) → e .name < 66 → eqb (e .name) 53 ≡ false → doTo text e (effectsAt e) v .defined ≡ v .defined
+pub defined-turn : (text : List ℕ) (e : Event) (v : Values) → e .name < nameCount → eqb (e .name) 53 ≡ false → doTo text e (effectsAt e) v .defined ≡ v .defined
 defined-turn text e v l n = decide (isEnter e) (λ x. defined-kept text e (effectsAt e) v (rw (enter-effects e (e .name) x refl) (enters (e .name) l .defines-not))) (λ x. defined-kept text e (effectsAt e) v (rw (exit-effects e (e .name) x refl) (leaves (e .name) l .defines-not n)))

@@ -18,6 +18,7 @@ use Rattle.shape.proofs.Says.{both}
 use Rattle.never.specs.Values.{Ids, Effect, pushes, pops, names, refers, leads, seeks, defines, labels, notes, calls, unmarks, marks, idsStep, labelsStep, textOf}
 use Rattle.never.specs.Ghost.{effectsAt, idsRun, idsOf, allEffects}
 use Rattle.never.specs.Here.{Here}
+use Rattle.nesting.specs.Grammar.{nameCount}
 use Rattle.never.proofs.Here.{fields-there, own-str}
 use Rattle.never.proofs.Inert.{enter-effects}
 use Rattle.never.proofs.Names.{enters, unspanned}
@@ -101,7 +102,7 @@ labels-run text e [] ps s h = h
 labels-run text e (x ∷ xs) ps s h = let p = split-spans text e x xs s in labels-run text e xs (labelsStep e x ps) (p .1) (labels-step text e x ps (p .0) h)
 
 module _ (text events : List ℕ) (meets : Meets text events) where
-  pub name-below : (p : ℕ) (before : List Event) (e : Event) (es : List Event) → Here (eventsOf events) p before (e ∷ es) → e .name < 66
+  pub name-below : (p : ℕ) (before : List Event) (e : Event) (es : List Event) → Here (eventsOf events) p before (e ∷ es) → e .name < nameCount
   name-below p before e es h = let f = fields-there text events meets p before e es h .name in omega arith
 
   pub spans-there : (p : ℕ) (before : List Event) (e : Event) (es : List Event) → Here (eventsOf events) p before (e ∷ es) → Spans text e (effectsAt e)

@@ -32,10 +32,11 @@ use Rattle.never.specs.Needs as N
 use Rattle.never.specs.Needs.{Need, needOf, askOf, Fact, simple, slice?}
 use Rattle.never.proofs.Came.{via-newest, via-take}
 use Rattle.never.proofs.Given.{given-right}
+use Rattle.nesting.specs.Grammar.{nameCount}
 
 -- ---- by names
 
-all-enters : T (below 66 (λ n. simple N.none (rowOf n .enter)))
+all-enters : T (below nameCount (λ n. simple N.none (rowOf n .enter)))
 unfolding simple needOf askOf rows onExitData onExitCharacterReferenceMarker onExitCharacterReferenceMarkerNumeric onExitCharacterReferenceMarkerHexadecimal onExitCharacterReferenceValue onExitLineEnding onExitBlankLineEnding onEnterEmphasis onExitEmphasis onEnterStrong onExitStrong onExitBreak onEnterRawText onExitRawText onEnterHtmlText onEnterHtmlFlow onExitHtml onExitHtmlData generateAutolink onExitAutolinkEmail onExitAutolinkProtocol onEnterParagraph onExitParagraph onEnterBlockQuote onExitBlockQuote onExitThematicBreak onExitHeadingAtxSequence onExitHeadingAtxText onExitHeadingAtx onExitHeadingSetextText setextRank onExitHeadingSetextUnderlineSequence onEnterCodeIndented onEnterRawFlow onExitRawFlowFence onExitRawFlowFenceInfo onExitRawFlowChunk onExitRawFlow onEnterList onExitList onEnterListItemMarker onExitListItemValue onExitListItem onEnterGfmTable onExitGfmTable onEnterGfmTableHead onExitGfmTableHead onEnterGfmTableBody onExitGfmTableBody onEnterGfmTableCell onExitGfmTableCell onEnterGfmTableRow onExitGfmTableRow onEnterBuffer onExitDrop onEnterLink onEnterImage onExitLabel onExitLabelText onExitReferenceString onEnterResource onEnterResourceDestinationString onExitResourceDestinationString onExitResourceTitleString onExitMedia onEnterDefinition onExitDefinitionLabelString onEnterDefinitionDestinationString onExitDefinitionDestinationString onExitDefinitionTitleString onExitDefinition onEnterGfmFootnoteCall onExitGfmFootnoteCall onEnterGfmFootnoteDefinition onExitGfmFootnoteDefinitionLabelString onExitGfmFootnoteDefinitionPrefix onExitGfmFootnoteDefinition
 all-enters = tt
 
@@ -43,7 +44,7 @@ all-enters = tt
 abbrev pub asking : ℕ → Bool
 asking n = oneOf (11 ∷ 18 ∷ 23 ∷ 26 ∷ 27 ∷ 28 ∷ 33 ∷ 45 ∷ 46 ∷ 53 ∷ 62 ∷ 63 ∷ []) n
 
-all-exits : T (below 66 (λ n. asking n || simple slice? (rowOf n .exit)))
+all-exits : T (below nameCount (λ n. asking n || simple slice? (rowOf n .exit)))
 unfolding simple needOf askOf rows onExitData onExitCharacterReferenceMarker onExitCharacterReferenceMarkerNumeric onExitCharacterReferenceMarkerHexadecimal onExitCharacterReferenceValue onExitLineEnding onExitBlankLineEnding onEnterEmphasis onExitEmphasis onEnterStrong onExitStrong onExitBreak onEnterRawText onExitRawText onEnterHtmlText onEnterHtmlFlow onExitHtml onExitHtmlData generateAutolink onExitAutolinkEmail onExitAutolinkProtocol onEnterParagraph onExitParagraph onEnterBlockQuote onExitBlockQuote onExitThematicBreak onExitHeadingAtxSequence onExitHeadingAtxText onExitHeadingAtx onExitHeadingSetextText setextRank onExitHeadingSetextUnderlineSequence onEnterCodeIndented onEnterRawFlow onExitRawFlowFence onExitRawFlowFenceInfo onExitRawFlowChunk onExitRawFlow onEnterList onExitList onEnterListItemMarker onExitListItemValue onExitListItem onEnterGfmTable onExitGfmTable onEnterGfmTableHead onExitGfmTableHead onEnterGfmTableBody onExitGfmTableBody onEnterGfmTableCell onExitGfmTableCell onEnterGfmTableRow onExitGfmTableRow onEnterBuffer onExitDrop onEnterLink onEnterImage onExitLabel onExitLabelText onExitReferenceString onEnterResource onEnterResourceDestinationString onExitResourceDestinationString onExitResourceTitleString onExitMedia onEnterDefinition onExitDefinitionLabelString onEnterDefinitionDestinationString onExitDefinitionDestinationString onExitDefinitionTitleString onExitDefinition onEnterGfmFootnoteCall onExitGfmFootnoteCall onEnterGfmFootnoteDefinition onExitGfmFootnoteDefinitionLabelString onExitGfmFootnoteDefinitionPrefix onExitGfmFootnoteDefinition
 all-exits = tt
 
@@ -56,11 +57,11 @@ nothing-given t N.follows g = absurd g
 nothing-given t N.looks g = absurd g
 nothing-given t N.more g = absurd g
 
-pub right-enter : (t : Turn) (n : ℕ) → n < 66 → (s : State) → Right (rowOf n .enter) t s
-right-enter t n h s = given-right t N.none (λ k g. nothing-given t k g) (rowOf n .enter) (computed (λ n. simple N.none (rowOf n .enter)) 66 all-enters n h) s
+pub right-enter : (t : Turn) (n : ℕ) → n < nameCount → (s : State) → Right (rowOf n .enter) t s
+right-enter t n h s = given-right t N.none (λ k g. nothing-given t k g) (rowOf n .enter) (computed (λ n. simple N.none (rowOf n .enter)) nameCount all-enters n h) s
 
-pub right-exit : (t : Turn) (n : ℕ) → n < 66 → asking n ≡ false → Fact N.slices t → (s : State) → Right (rowOf n .exit) t s
-right-exit t n h a own s = given-right t slice? (λ k g. only k g) (rowOf n .exit) (at (asking n) a (computed (λ n. asking n || simple slice? (rowOf n .exit)) 66 all-exits n h)) s
+pub right-exit : (t : Turn) (n : ℕ) → n < nameCount → asking n ≡ false → Fact N.slices t → (s : State) → Right (rowOf n .exit) t s
+right-exit t n h a own s = given-right t slice? (λ k g. only k g) (rowOf n .exit) (at (asking n) a (computed (λ n. asking n || simple slice? (rowOf n .exit)) nameCount all-exits n h)) s
   where
     only : (k : Need) → T (slice? k) → Fact k t
     only N.free g = tt

@@ -10,7 +10,7 @@ use Rattle.lent.specs.Bytes.{oneOf}
 use Rattle.check_labels.specs.declared.Part.{Part}
 use Rattle.check_labels.specs.declared.Part.the-variants.{Slice, Nothing}
 use Rattle.check_labels.specs.Labels.{orElse}
-use Rattle.nesting.specs.Grammar.{opt, nameOf, holds, rules}
+use Rattle.nesting.specs.Grammar.{opt, nameOf, holds, rules, callLabel}
 use Rattle.nesting.specs.Nests.{Takes}
 use Rattle.rules.specs.Elements.{Forest, childOf, grandchildOf, soughtIn}
 use Rattle.shape.specs.Fits.{every}
@@ -21,7 +21,7 @@ use Rattle.never.specs.Values.{Ids, ids3}
 use Rattle.never.specs.Ghost.{idsOver, Top, tops, childTop, grandTop, idsTops, IsKind, AreKinds, orThat, isPart}
 use Rattle.machine.specs.Turn.{spanOf}
 use Rattle.never.proofs.Tops.{child-tops, grand-tops, ids-tops, kinds-tops, absent-in, takes-one, takes-opt, takes-none, only, one-of-two}
-use Rattle.never.proofs.Parts.{no-tops, one-top, ran, part-47, part-69, part-49, part-52, part-54, part-55, part-56}
+use Rattle.never.proofs.Parts.{no-tops, one-top, ran, part-47, part-call, part-49, part-52, part-54, part-55, part-56}
 
 or-nothing : (x : Part) → orElse x Nothing ≡ x
 or-nothing (Slice from to) = refl
@@ -92,14 +92,14 @@ media-ids f {ks} c w is = ids-tops c (bare ∷ is) ∙ rw (grand-tops 48 f, chil
 call-tops : (ks : List ℕ) (xs : List Top) → Takes (holds 62) ks → AreKinds ks xs → (is : List Ids) → (idsTops xs (bare ∷ is) ≡ known (grandTop 48 xs) Nothing Nothing ∷ is) × (childTop 52 xs ≡ Nothing) × (childTop 49 xs ≡ Nothing)
 unfolding holds rules
 call-tops ks xs w h is =
-    let o = takes-one (69 ∷ []) [] ks w in
-    let h₁ : AreKinds (69 ∷ []) xs = rw (o .3, only 69 (o .0) (o .2), takes-none (o .1) (o .4)) at h in
-    let x = one-top 69 [] xs h₁ in
+    let o = takes-one (callLabel ∷ []) [] ks w in
+    let h₁ : AreKinds (callLabel ∷ []) xs = rw (o .3, only callLabel (o .0) (o .2), takes-none (o .1) (o .4)) at h in
+    let x = one-top callLabel [] xs h₁ in
     let f : xs ≡ x .0 ∷ [] = x .2 ∙ ap (λ (l : List Top). x .0 ∷ l) (no-tops (x .1) (x .4)) in
     rw f (at (x .0) (x .3))
   where
-    at : (x : Top) → IsKind 69 x → (idsTops (x ∷ []) (bare ∷ is) ≡ known (grandTop 48 (x ∷ [])) Nothing Nothing ∷ is) × (childTop 52 (x ∷ []) ≡ Nothing) × (childTop 49 (x ∷ []) ≡ Nothing)
-    at x h = (part-69 x bare is h ∙ rw (or-nothing (childOf 48 (x .inside))) refl, rw (is-named 69 52 x false h refl) refl, rw (is-named 69 49 x false h refl) refl)
+    at : (x : Top) → IsKind callLabel x → (idsTops (x ∷ []) (bare ∷ is) ≡ known (grandTop 48 (x ∷ [])) Nothing Nothing ∷ is) × (childTop 52 (x ∷ []) ≡ Nothing) × (childTop 49 (x ∷ []) ≡ Nothing)
+    at x h = (part-call x bare is h ∙ rw (or-nothing (childOf 48 (x .inside))) refl, rw (is-named callLabel 52 x false h refl) refl, rw (is-named callLabel 49 x false h refl) refl)
 
 pub call-ids : (f : Forest) {ks : List ℕ} → Kinds ks f → Takes (holds 62) ks → (is : List Ids) → idsOver f (bare ∷ is) ≡ known (grandchildOf 48 f) Nothing Nothing ∷ is
 call-ids f {ks} c w is = ids-tops c (bare ∷ is) ∙ rw (grand-tops 48 f) (call-tops ks (tops f) w (kinds-tops c) is .0)

@@ -42,6 +42,7 @@ use Rattle.never.proofs.Here.{here-next, here-over, is-at}
 use Rattle.never.proofs.Names.{unmarked, enters, leaves}
 use Rattle.never.proofs.Readable.{ReadAll, labelsRun, labels-run, name-below, spans-there}
 use Rattle.never.proofs.Marked.{between-media, labels-of, marker-kept, marks-10, marks-8, marks-9, no-marker, ready-unmarked}
+use Rattle.nesting.specs.Grammar.{nameCount}
 
 -- ---- what is kept
 
@@ -64,7 +65,7 @@ module _ (text events : List ℕ) (meets : Meets text events) where
     tracks-it : T (tracks (commandOf t))
     unfolding commandOf
     tracks-it =
-        let q = both (tracks (rowOf (e .name) .enter)) (tracks (rowOf (e .name) .exit)) (computed (λ n. tracks (rowOf n .enter) && tracks (rowOf n .exit)) 66 all-track (e .name) (name-below text events meets p before e es h)) in
+        let q = both (tracks (rowOf (e .name) .enter)) (tracks (rowOf (e .name) .exit)) (computed (λ n. tracks (rowOf n .enter) && tracks (rowOf n .exit)) nameCount all-track (e .name) (name-below text events meets p before e es h)) in
         at (isEnter e) (q .0) (q .1)
       where
         at : (x : Bool) → T (tracks (rowOf (e .name) .enter)) → T (tracks (rowOf (e .name) .exit)) → T (tracks (commandIn x (rowOf (e .name))))

@@ -7,7 +7,7 @@ use native.Mathlib.Omega.{arith}
 use lib.Dec.{T, eqb}
 use borrow.Author.Tests.{ne-eqb}
 use Rattle.lent.specs.Bytes.{oneOf}
-use Rattle.nesting.specs.Grammar.{Item, one, opt, any, chain, nameOf, holds, rules, whole}
+use Rattle.nesting.specs.Grammar.{Item, one, opt, any, chain, nameOf, holds, rules, whole, kindCount}
 use Rattle.nesting.specs.Nests.{Takes, nothing, one-taken, opt-none, opt-taken, any-none, any-taken, chain-none, chain-taken}
 use Rattle.rules.specs.Elements.{Forest, Paired}
 use Rattle.rules.proofs.Before.{clash}
@@ -77,7 +77,7 @@ calm k = oneOf (5 ∷ 6 ∷ 7 ∷ 8 ∷ 9 ∷ 10 ∷ 11 ∷ 54 ∷ 55 ∷ 56 ∷
 abbrev staysCalm : ℕ → Bool
 staysCalm k = not (calm k) || (everyItem calm (holds k) && not (eqb (nameOf k) 53))
 
-all-calm : T (below 70 staysCalm)
+all-calm : T (below kindCount staysCalm)
 unfolding holds rules
 all-calm = tt
 
@@ -98,14 +98,14 @@ calm-forest none t = tt
 calm-forest (through {a} {ks} {ls} m r c d) t = let p = every-split calm ks ls t in (ne-eqb (a .name) 53 (λ e. absurd (omega arith)), calm-forest c (p .0), calm-forest d (p .1))
 calm-forest (child {a} {k} {ls} e l r w c d) t =
     let p = both (calm k) (every calm ls) t in
-    let q = both (everyItem calm (holds k)) (not (eqb (nameOf k) 53)) (then (calm k) (everyItem calm (holds k) && not (eqb (nameOf k) 53)) (computed staysCalm 70 all-calm k (kind-below k l)) (p .0)) in
+    let q = both (everyItem calm (holds k)) (not (eqb (nameOf k) 53)) (then (calm k) (everyItem calm (holds k) && not (eqb (nameOf k) 53)) (computed staysCalm kindCount all-calm k (kind-below k l)) (p .0)) in
     (rw e (failed (eqb (nameOf k) 53) (q .1)), calm-forest c (kinds-taken calm w (q .0)), calm-forest d (p .1))
 
 pub calm-inside : {ks : List ℕ} → Takes (holds 53) ks → T (every calm ks)
 calm-inside w = kinds-taken calm w definition-calm
 
 pub calm-closed : (k : ℕ) → 5 ≤ nameOf k → T (calm k) → T (everyItem calm (holds k))
-calm-closed k l t = both (everyItem calm (holds k)) (not (eqb (nameOf k) 53)) (then (calm k) (everyItem calm (holds k) && not (eqb (nameOf k) 53)) (computed staysCalm 70 all-calm k (kind-below k l)) t) .0
+calm-closed k l t = both (everyItem calm (holds k)) (not (eqb (nameOf k) 53)) (then (calm k) (everyItem calm (holds k) && not (eqb (nameOf k) 53)) (computed staysCalm kindCount all-calm k (kind-below k l)) t) .0
 
 -- what a definition holds
 pub in-definition : {ks : List ℕ} {f : Forest} → Takes (holds 53) ks → Kinds ks f → NoDefinition f
@@ -119,7 +119,7 @@ loose k = not (oneOf (54 ∷ 55 ∷ 56 ∷ []) k)
 abbrev staysLoose : ℕ → Bool
 staysLoose k = not (loose k) || (not (eqb (nameOf k) 54) && (eqb (nameOf k) 53 || everyItem loose (holds k)))
 
-all-loose : T (below 70 staysLoose)
+all-loose : T (below kindCount staysLoose)
 unfolding holds rules
 all-loose = tt
 
@@ -128,12 +128,12 @@ loose-whole w = kinds-taken loose w tt
 
 pub loose-name : (k : ℕ) → 5 ≤ nameOf k → T (loose k) → eqb (nameOf k) 54 ≡ false
 loose-name k l t =
-    let p = then (loose k) (not (eqb (nameOf k) 54) && (eqb (nameOf k) 53 || everyItem loose (holds k))) (computed staysLoose 70 all-loose k (kind-below k l)) t in
+    let p = then (loose k) (not (eqb (nameOf k) 54) && (eqb (nameOf k) 53 || everyItem loose (holds k))) (computed staysLoose kindCount all-loose k (kind-below k l)) t in
     failed (eqb (nameOf k) 54) (both (not (eqb (nameOf k) 54)) (eqb (nameOf k) 53 || everyItem loose (holds k)) p .0)
 
 pub loose-inside : (k : ℕ) {ks : List ℕ} → 5 ≤ nameOf k → T (loose k) → eqb (nameOf k) 53 ≡ false → Takes (holds k) ks → T (every loose ks)
 loose-inside k l t n w =
-    let p = then (loose k) (not (eqb (nameOf k) 54) && (eqb (nameOf k) 53 || everyItem loose (holds k))) (computed staysLoose 70 all-loose k (kind-below k l)) t in
+    let p = then (loose k) (not (eqb (nameOf k) 54) && (eqb (nameOf k) 53 || everyItem loose (holds k))) (computed staysLoose kindCount all-loose k (kind-below k l)) t in
     let q = both (not (eqb (nameOf k) 54)) (eqb (nameOf k) 53 || everyItem loose (holds k)) p .1 in
     kinds-taken loose w (at (eqb (nameOf k) 53) n q)
   where

@@ -6,7 +6,7 @@ use lib.ListN.{getD}
 use Rattle.lent.specs.Bytes.{if_then_else_, oneOf}
 use Rattle.machine.specs.Command.{nothing}
 use Rattle.machine.specs.Handlers.{Row, on, rows}
-use Rattle.nesting.specs.Grammar.{flow, nameOf, holds, whole}
+use Rattle.nesting.specs.Grammar.{flow, nameOf, holds, whole, bulletItem, bulletPrefix, secondFence, callLabel}
 use Rattle.shape.specs.Shape.{Say, sure, kept, lost, changed, Shape, idle, covers}
 use Rattle.shape.specs.Acts.{Contract, contract, withCaptures, withLabels, withWaits, withMedia, turns, up1}
 use Rattle.shape.specs.Fits.{goes, good}
@@ -38,17 +38,17 @@ line ks ws ms x = record { kinds = ks; contract = contract ws ms x }
 unfoldable pub lines : List Line
 lines =
     line flow (2 ∷ 10 ∷ []) (8 ∷ 9 ∷ []) block
-    ∷ line (23 ∷ 66 ∷ []) (2 ∷ 6 ∷ 10 ∷ []) (8 ∷ 9 ∷ []) block
+    ∷ line (23 ∷ bulletItem ∷ []) (2 ∷ 6 ∷ 10 ∷ []) (8 ∷ 9 ∷ []) block
     ∷ line (15 ∷ 39 ∷ 40 ∷ 45 ∷ 46 ∷ 62 ∷ []) [] (8 ∷ []) inLine
     ∷ line (8 ∷ 9 ∷ 10 ∷ []) [] [] (withWaits (turns (5 ∷ []) (10 ∷ [])) idle)
     ∷ line (11 ∷ []) (5 ∷ []) [] (withWaits (turns (10 ∷ []) (5 ∷ [])) idle)
     ∷ line (14 ∷ []) [] [] (withWaits (turns (0 ∷ []) (5 ∷ [])) idle)
     ∷ line (17 ∷ []) (2 ∷ []) (8 ∷ 9 ∷ []) (withWaits (turns (1 ∷ []) (2 ∷ 5 ∷ [])) idle)
     ∷ line (18 ∷ []) (1 ∷ []) (9 ∷ []) (withWaits (turns (2 ∷ []) (1 ∷ 5 ∷ [])) idle)
-    ∷ line (24 ∷ 67 ∷ 25 ∷ 26 ∷ []) (6 ∷ []) [] inLine
-    ∷ line (29 ∷ 68 ∷ []) (4 ∷ []) [] inLine
+    ∷ line (24 ∷ bulletPrefix ∷ 25 ∷ 26 ∷ []) (6 ∷ []) [] inLine
+    ∷ line (29 ∷ secondFence ∷ []) (4 ∷ []) [] inLine
     ∷ line (47 ∷ []) [] (0 ∷ 1 ∷ 3 ∷ 4 ∷ 8 ∷ []) (part (2 ∷ []) (1 ∷ 8 ∷ 9 ∷ []))
-    ∷ line (69 ∷ []) [] (0 ∷ 1 ∷ 3 ∷ 4 ∷ 8 ∷ []) (part (2 ∷ 5 ∷ []) (1 ∷ 8 ∷ 9 ∷ []))
+    ∷ line (callLabel ∷ []) [] (0 ∷ 1 ∷ 3 ∷ 4 ∷ 8 ∷ []) (part (2 ∷ 5 ∷ []) (1 ∷ 8 ∷ 9 ∷ []))
     ∷ line (48 ∷ []) [] (0 ∷ 8 ∷ []) (part (5 ∷ []) (8 ∷ []))
     ∷ line (49 ∷ []) [] (0 ∷ 3 ∷ 4 ∷ []) (part [] (3 ∷ 4 ∷ 8 ∷ 9 ∷ []))
     ∷ line (50 ∷ 55 ∷ []) [] (0 ∷ 3 ∷ 4 ∷ []) (part [] (3 ∷ 8 ∷ 9 ∷ []))
