@@ -64,13 +64,13 @@ module _ (text events : List ℕ) (o : Options) (room work : ℕ) (out′ : List
 
   answer : (r : Built) → Ends text events o room work out′ r → r ≡ after (checkedOf text events work) Refused (answerOf the-run)
   answer (Refused c) e = after-no c Refused (answerOf the-run) (e .1) ∙ rw (e .0)
-  answer (Page n) e = rw (e .0, e .2, e .4)
+  answer (Page n) e = rw (e .0, e .2, e .5)
   answer (WorkFull i) e = rw (e .0, e .1) (ap WorkFull (same-index i))
   answer (PageFull i) e = rw (e .0, e .1) (ap PageFull (same-index i))
 
   bytes : (r : Built) → Ends text events o room work out′ r → out′ ≡ after (checkedOf text events work) (λ c. zeros room) (bytesOf room the-run)
-  bytes (Refused c) e = e .2 ∙ after-no c (λ c. zeros room) (bytesOf room the-run) (e .1) ∙ rw (e .0)
-  bytes (Page n) e = e .5 ∙ rw (e .0, e .2, e .4)
+  bytes (Refused c) e = e .4 ∙ after-no c (λ c. zeros room) (bytesOf room the-run) (e .1) ∙ rw (e .0)
+  bytes (Page n) e = e .6 ∙ rw (e .0, e .2)
   bytes (WorkFull i) e = e .2 ∙ rw (e .0, e .1)
   bytes (PageFull i) e = e .2 ∙ rw (e .0, e .1)
 

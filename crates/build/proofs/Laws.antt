@@ -45,7 +45,7 @@ pub refused : {text events out work out′ work′ : List ℕ} {o : Options} {c 
     → Builds text events o out work out′ work′ r
 refused {text} {events} {out} {work} {out′} {o = o} {c} p h f =
     record {
-      ended = subst (λ (x : Built). Ends text events o (length out) (length work) out′ x) (sym (f .answer)) (sym p, not-yes c h, f .bytes ∙ wiped out);
+      ended = subst (λ (x : Built). Ends text events o (length out) (length work) out′ x) (sym (f .answer)) (sym p, not-yes c h, refl, refl, f .bytes ∙ wiped out);
       cleared = f .cleared;
     }
 
@@ -56,7 +56,7 @@ module _ (text events out out₁ : List ℕ) (o : Options) (work : ℕ) (y : che
   ends : (r : Rendered) → Answers out₁ r (runOf text o (length out) (eventsOf events)) → Ends text events o (length out) work (clearedFrom (keptOf r) out₁) (builtOf r)
   ends (R.Page n) a =
       let k : n ≡ length (take n out₁) = simp length-take (omega arith) in
-      (y, take n out₁, a .0, no-limit text o (length out) (eventsOf events) (take n out₁) (a .0), k, rw l)
+      (y, take n out₁, a .0, no-limit text o (length out) (eventsOf events) (take n out₁) (a .0), refl, k, rw (l, ← k))
   ends (R.WorkFull i) a = (y, a, wiped out₁ ∙ rw l)
   ends (R.PageFull i) a = (y, a, wiped out₁ ∙ rw l)
 

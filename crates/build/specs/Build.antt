@@ -6,26 +6,32 @@ use lib.ListN.{length}
 use Rattle.lent.specs.Fill.{zeros}
 use Rattle.event.specs.Event.{eventsOf}
 use Rattle.checker.specs.declared.Checked.the-variants.{Yes}
+use Rattle.checker.specs.Checked as C
 use Rattle.machine.specs.declared.Options.{Options}
 use Rattle.machine.specs.Outcome.{go}
 use Rattle.machine.specs.Run.{page, refused, runOf, machineOf}
 use Rattle.built.specs.declared.Built.{Built}
 use Rattle.built.specs.declared.Built.the-variants.{Page, Refused, WorkFull, PageFull}
-use Rattle.built.specs.Built.{checkedOf}
+use Rattle.built.specs.Built.{numberOf, valueOf, checkedOf}
 
 -- what an answer says of the note, of an output of room bytes, and of what stands in it afterwards
 module _ (text events : List ℕ) (o : Options) (room work : ℕ) (out′ : List ℕ) where
+  -- the run is refused with the answer's number and place
+  abbrev pub Limited : Built → Type 0
+  Limited r = (checkedOf text events work ≡ Yes) × (runOf text o room (eventsOf events) ≡ refused (numberOf r) (valueOf r)) × (out′ ≡ zeros room)
+
   abbrev pub Ends : Built → Type 0
-  Ends (Refused c) = (checkedOf text events work ≡ c) × (c ≡ Yes → ⊥) × (out′ ≡ zeros room)
+  Ends (Refused c) = (checkedOf text events work ≡ c) × (c ≡ Yes → ⊥) × (numberOf (Refused c) ≡ C.numberOf c) × (valueOf (Refused c) ≡ C.placeOf c) × (out′ ≡ zeros room)
   Ends (Page n) =
       (checkedOf text events work ≡ Yes)
       × (b : List ℕ)
       × (runOf text o room (eventsOf events) ≡ page b)
       × (machineOf text o (eventsOf events) ≡ go b)
-      × (n ≡ length b)
-      × (out′ ≡ b ++ zeros (room - n))
-  Ends (WorkFull i) = (checkedOf text events work ≡ Yes) × (runOf text o room (eventsOf events) ≡ refused 8 (i .0)) × (out′ ≡ zeros room)
-  Ends (PageFull i) = (checkedOf text events work ≡ Yes) × (runOf text o room (eventsOf events) ≡ refused 9 (i .0)) × (out′ ≡ zeros room)
+      × (numberOf (Page n) ≡ 0)
+      × (valueOf (Page n) ≡ length b)
+      × (out′ ≡ b ++ zeros (room - length b))
+  Ends (WorkFull i) = Limited (WorkFull i)
+  Ends (PageFull i) = Limited (PageFull i)
 
 -- a call on these buffers answered r, and left out′ and work′
 pub record Builds (text events : List ℕ) (o : Options) (out work out′ work′ : List ℕ) (r : Built) : Type 0 where

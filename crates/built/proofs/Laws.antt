@@ -11,7 +11,7 @@ use Rattle.lent.specs.Bytes.{if_then_else_}
 use Rattle.lent.specs.Fill.{zeros}
 use Rattle.checker.specs.declared.Checked.{Checked}
 use Rattle.checker.specs.declared.Checked.the-variants.{Yes, WrongLength}
-use Rattle.checker.specs.Checked.{checkOf}
+use Rattle.checker.specs.Checked.{checkOf, Checks}
 use Rattle.event.specs.declared.EventIndex.{EventIndex}
 use Rattle.built.specs.declared.Rendered.{Rendered}
 use Rattle.built.specs.declared.Rendered.the-variants as R
@@ -27,8 +27,8 @@ module _ (text events : List ℕ) (work : ℕ) where
   pub short-work : work < 49152 → WrongLength ≡ checkedOf text events work
   short-work h = rw (lt-ltb work 49152 h)
 
-  pub by-checker : {c : Checked} → 49152 ≤ work → c ≡ checkOf text events → c ≡ checkedOf text events work
-  by-checker h p = p ∙ rw (le-ltb work 49152 h)
+  pub by-checker : {c : Checked} → 49152 ≤ work → Checks text events c → c ≡ checkedOf text events work
+  by-checker h p = p .answer ∙ rw (le-ltb work 49152 h)
 
   pub passed : checkedOf text events work ≡ Yes → (49152 ≤ work) × (checkOf text events ≡ Yes)
   passed p = on (ltb work 49152) refl p

@@ -1,5 +1,5 @@
 -- What the code goes by on the whole bundle: 01's sentences one by one, and the call. Assumes nothing.
-use mathlib.Core.Path.{_≡_, refl, sym, ap, _∙_}
+use mathlib.Core.Path.{_≡_, refl, sym, ap, subst, _∙_}
 use mathlib.Core.Bool.{Bool, true, false, _&&_}
 use mathlib.Core.List.{List, _++_}
 use Prim.Native.Nat.{ℕ, _+_, _-_, _*_, _/_, _%_, _≤_}
@@ -13,14 +13,14 @@ use Rattle.lent.specs.Fill.{zeros}
 use Rattle.bundle.specs.declared.Answer.{Answer}
 use Rattle.bundle.specs.declared.Answer.the-variants.{Bundle, Refused}
 use Rattle.block.specs.declared.Refusal.{Refusal}
-use Rattle.block.specs.declared.Refusal.the-variants.{Short, Broken}
+use Rattle.block.specs.declared.Refusal.the-variants.{Short, Broken, BadCheck, OtherEdition}
 use Rattle.block.specs.declared.Verdict.{Verdict}
 use Rattle.block.specs.declared.Verdict.the-variants.{Good, Bad}
 use Rattle.block.specs.Block.{editionIn, _before_, demand, judgeBlock}
 use Rattle.block_run.specs.Run.{judgeRun, heldIn}
 use Rattle.bundle.specs.Bundle.{textLength, eventCount, eventLength, textBlocks, eventBlocks, textPart, eventPart, textIn, eventsIn}
-use Rattle.bundle.specs.Bundle.{judgeLength, judgeHeader, judgeCount, judgeText, judgeEvents, judgeBundle, refused, meant, readOf}
-use Rattle.bundle.specs.Read.{callOf, HasRead, judgeCall}
+use Rattle.bundle.specs.Bundle.{judgeLength, judgeHeader, judgeCount, judgeText, judgeEvents, judgeBundle, Meaning, says, refused, meant, readOf}
+use Rattle.bundle.specs.Read.{callOf, answerOf, Numbered, HasRead, judgeCall}
 use Rattle.bundle.specs.Sizes.{mostText, mostEvents, leastRoom, textRoom, eventRoom, headerUsed, headerKind, textKind, eventKind}
 use Rattle.block.proofs.Block.{first-bad, then-next, demanded, demanded-both, both-good}
 use Rattle.block_run.proofs.Run.{length-held}
@@ -180,22 +180,36 @@ call-meant l t e = by (leb leastRoom t && leb leastRoom e)
     by true = refl
     by false = refl
 
+-- the answer has 01's number and values for what the call means
+pub numbered : (m : Meaning) → Numbered m (answerOf m)
+numbered (says text events edition) = (refl, refl, refl, refl)
+numbered (refused Short) = (refl, refl)
+numbered (refused (Broken block)) = (refl, refl)
+numbered (refused (BadCheck block)) = (refl, refl)
+numbered (refused (OtherEdition block)) = (refl, refl)
+
+pub answer-numbered : (m : Meaning) {r : Answer} → r ≡ answerOf m → Numbered m r
+answer-numbered m p = subst (λ (x : Answer). Numbered m x) (sym p) (numbered m)
+
 module _ (l t e : List ℕ) {v : Verdict} (p : v ≡ judgeCall l (length t) (length e)) where
   meaning : {w : Verdict} → v ≡ w → callOf l (length t) (length e) ≡ meant w l
   meaning q = call-meant l (length t) (length e) ∙ ap (λ (x : Verdict). meant x l) (sym p ∙ q)
 
   pub read-bad : {u f : List ℕ} {r : Refusal} → v ≡ Bad r → u ≡ take 0 t ++ zeros (length t - 0) → f ≡ take 0 e ++ zeros (length e - 0) → HasRead l t e u f (Refused r)
-  read-bad q x y =
+  read-bad {r = r} q x y =
       let a : length t - 0 ≡ length t = omega arith in
       let b : length e - 0 ≡ length e = omega arith in
-      record { answer = rw (meaning q); text = rw (meaning q) (rw a at x); events = rw (meaning q) (rw b at y) }
+      let z : Refused r ≡ answerOf (callOf l (length t) (length e)) = rw (meaning q) in
+      record { answer = z; numbers = answer-numbered (callOf l (length t) (length e)) z; text = rw (meaning q) (rw a at x); events = rw (meaning q) (rw b at y) }
 
   pub read-good : {u f : List ℕ} {r : Answer} → v ≡ Good → u ≡ textIn l ++ zeros (length t - textLength l) → f ≡ eventsIn l ++ zeros (length e - eventLength l)
       → r ≡ Bundle (textLength l) (eventLength l) (editionIn l) → HasRead l t e u f r
-  read-good q x y z =
+  read-good {r = r} q x y z =
       let s = taken l (length t) (length e) (sym p ∙ q) .sound in
+      let k : r ≡ answerOf (callOf l (length t) (length e)) = rw (meaning q, length-text l s, length-events l s) z in
       record {
-        answer = rw (meaning q, length-text l s, length-events l s) z;
+        answer = k;
+        numbers = answer-numbered (callOf l (length t) (length e)) k;
         text = rw (meaning q, length-text l s) x;
         events = rw (meaning q, length-events l s) y;
       }

@@ -66,9 +66,18 @@ abbrev pub eventBytes : Meaning → (buffer : ℕ) → List ℕ
 eventBytes (says text events edition) buffer = events ++ zeros (buffer - length events)
 eventBytes (refused r) buffer = zeros buffer
 
+-- 01's number and values: two lengths in bytes and the edition, or 1, 10, 11, 12 and the block
+abbrev pub Numbered : Meaning → Answer → Type 0
+Numbered (says text events edition) r = (numberOf r ≡ 0) × (valueOf r ≡ length text) × (eventsOf r ≡ length events) × (editionOf r ≡ edition)
+Numbered (refused Short) r = (numberOf r ≡ 1) × (valueOf r ≡ 0)
+Numbered (refused (Broken block)) r = (numberOf r ≡ 10) × (valueOf r ≡ block)
+Numbered (refused (BadCheck block)) r = (numberOf r ≡ 11) × (valueOf r ≡ block)
+Numbered (refused (OtherEdition block)) r = (numberOf r ≡ 12) × (valueOf r ≡ block)
+
 -- a call on this bundle and the buffers t and e answered r and left u and f
 pub record HasRead (bundle t e u f : List ℕ) (r : Answer) : Type 0 where
   pub answer : r ≡ answerOf (callOf bundle (length t) (length e))
+  pub numbers : Numbered (callOf bundle (length t) (length e)) r
   pub text : u ≡ textBytes (callOf bundle (length t) (length e)) (length t)
   pub events : f ≡ eventBytes (callOf bundle (length t) (length e)) (length e)
 

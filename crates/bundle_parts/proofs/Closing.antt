@@ -16,7 +16,7 @@ use Rattle.block.specs.declared.Verdict.the-variants.{Good, Bad}
 use Rattle.block.specs.Block.{editionIn}
 use Rattle.bundle.specs.declared.Answer.{Answer}
 use Rattle.bundle.specs.Bundle.{textLength, eventLength, refused, meant}
-use Rattle.bundle.proofs.Bundle.{sound, length-text, length-events}
+use Rattle.bundle.proofs.Bundle.{sound, length-text, length-events, numbered}
 use Rattle.bundle_known.specs.declared.Known.{Known}
 use Rattle.bundle_known.specs.Known.{wholeOf}
 use Rattle.bundle_parts.specs.declared.Progress.the-variants.{More, Done}
@@ -68,7 +68,7 @@ kept-ends k t e left s p = pick-ends (wholeOf k) false k t e left s refl p
 
 module _ (l t e : List ℕ) where
   refused-late : (t′ e′ : List ℕ) (s : Stand) {r : Refusal} → callLate l (length t) (length e) ≡ refused r → length t′ ≡ length t → length e′ ≡ length e → s ≡ refusedAt t′ e′ r → HasReadLate l t e s
-  refused-late t′ e′ s p q m g = record { answer = rw (g, p); text = rw (g, p, q); events = rw (g, p, m) }
+  refused-late t′ e′ s p q m g = record { answer = rw (g, p); numbers = numbered (callLate l (length t) (length e)); text = rw (g, p, q); events = rw (g, p, m) }
 
   call-short : roomy t e ≡ false → callLate l (length t) (length e) ≡ refused Short
   unfolding callLate
@@ -109,6 +109,7 @@ module _ (l t e : List ℕ) where
         let k = call-meant good in
         record {
           answer = rw (g, k, a, b, c, length-text l w, length-events l w);
+          numbers = numbered (callLate l (length t) (length e));
           text = rw (g, k) (f .text ∙ rw (text-same l q));
           events = rw (g, k) (f .events ∙ rw (events-same l q));
         }

@@ -8,7 +8,7 @@ use Rattle.block.specs.declared.Refusal.the-variants.{Short}
 use Rattle.block.specs.declared.Verdict.{Verdict}
 use Rattle.block.specs.declared.Verdict.the-variants.{Good, Bad}
 use Rattle.block.specs.Block.{_before_, demand}
-use Rattle.bundle.specs.Read.{answerOf, textBytes, eventBytes}
+use Rattle.bundle.specs.Read.{answerOf, Numbered, textBytes, eventBytes}
 use Rattle.bundle_parts.specs.declared.Progress.the-variants.{More, Done}
 use Rattle.bundle_parts.specs.Late.{judgeCame, textSoFar, eventsSoFar, callLate}
 use Rattle.bundle_parts.specs.Feed.{Stand, refusedAt, roomy, feedOf}
@@ -40,5 +40,6 @@ HasFed (Bad r) bundle t e s = s ≡ refusedAt t e r
 -- after the end: what the definition makes of the joined bytes
 pub record HasReadLate (bundle t e : List ℕ) (s : Stand) : Type 0 where
   pub answer : s .progress ≡ Done (answerOf (callLate bundle (length t) (length e)))
+  pub numbers : Numbered (callLate bundle (length t) (length e)) (answerOf (callLate bundle (length t) (length e)))
   pub text : s .text ≡ textBytes (callLate bundle (length t) (length e)) (length t)
   pub events : s .events ≡ eventBytes (callLate bundle (length t) (length e)) (length e)

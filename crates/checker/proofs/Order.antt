@@ -18,22 +18,23 @@ use Rattle.check_events.specs.declared.Looked.the-variants as K
 use Rattle.check_events.specs.Looked.{Passes, Looks}
 use Rattle.checker.specs.declared.Checked.{Checked}
 use Rattle.checker.specs.declared.Checked.the-variants.{Yes, WrongLength, NotUtf8, Field, Nested, Slice, Count, Label}
-use Rattle.checker.specs.Checked.{event, sizesHold, checkOf, fromFields, fromNesting, fromSlices, fromCounts, fromLabels}
+use Rattle.checker.specs.Checked.{event, sizesHold, checkOf, Checks, fromFields, fromNesting, fromSlices, fromCounts, fromLabels}
+use Rattle.checker.proofs.Numbers.{checks}
 
 module _ (text events : List ℕ) where
   module _ (x : Bool) (p : x ≡ sizesHold text events) where
-    pub wrong-length : not x ≡ true → WrongLength ≡ checkOf text events
+    pub wrong-length : not x ≡ true → Checks text events WrongLength
     unfolding checkOf
-    wrong-length h = rw (← p, not-true x h)
+    wrong-length h = checks text events (rw (← p, not-true x h))
 
     module _ (y : Bool) (q : y ≡ isUtf8 text) (h : not x ≡ false) where
-      pub not-utf8 : not y ≡ true → NotUtf8 ≡ checkOf text events
+      pub not-utf8 : not y ≡ true → Checks text events NotUtf8
       unfolding checkOf
-      not-utf8 k = rw (← p, not-false x h, ← q, not-true y k)
+      not-utf8 k = checks text events (rw (← p, not-false x h, ← q, not-true y k))
 
-      pub from-here : {r : Checked} → not y ≡ false → r ≡ fromFields text events → r ≡ checkOf text events
+      pub from-here : {r : Checked} → not y ≡ false → r ≡ fromFields text events → Checks text events r
       unfolding checkOf
-      from-here k e = e ∙ rw (← p, not-false x h, ← q, not-false y k)
+      from-here k e = checks text events (e ∙ rw (← p, not-false x h, ← q, not-false y k))
 
   module _ (x : Looked) (p : Looks text events x) where
     pub looked-field : (i : ℕ) → x ≡ K.Field i → Field (event i) ≡ fromFields text events

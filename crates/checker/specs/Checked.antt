@@ -1,4 +1,5 @@
 -- The checker's answer: the lowest number whose rule is broken, at its earliest event; 01's number and place for each. Assumes nothing.
+use mathlib.Core.Path.{_≡_}
 use mathlib.Core.Bool.{Bool, not, _&&_}
 use mathlib.Core.List.{List}
 use Prim.Native.Nat.{ℕ, _%_}
@@ -95,3 +96,31 @@ checkOf text events =
     if not (sizesHold text events) then WrongLength
     else if not (isUtf8 text) then NotUtf8
     else fromFields text events
+
+-- ---- the promise
+
+-- one of eight, by the first of 01's rules that is broken, in the order of their numbers; from 3 on with its event
+unfoldable pub choose : {A : Type 0} → (text events : List ℕ) → (sizes utf8 : A) → (field nested slice count label : ℕ → A) → (passed : A) → A
+choose text events sizes utf8 field nested slice count label passed =
+    if not (sizesHold text events) then sizes
+    else if not (isUtf8 text) then utf8
+    else
+    elim (fieldsOf text events) [
+      | F.At i ↦ field i
+      | F.Yes ↦ elim (nestOf (tagsOf events)) [
+        | N.At i ↦ nested i
+        | N.Yes ↦ elim (slicesOf text events) [
+          | S.At i ↦ slice i
+          | S.Yes ↦ elim (countsOf events) [
+            | S.At i ↦ count i
+            | S.Yes ↦ elim (undefinedOf text events) [ L.At i ↦ label i | L.Yes ↦ passed ]
+          ]
+        ]
+      ]
+    ]
+
+-- a call on this text and these events answered r
+pub record Checks (text events : List ℕ) (r : Checked) : Type 0 where
+  pub answer : r ≡ checkOf text events
+  pub number : numberOf r ≡ choose text events 1 2 (λ i. 3) (λ i. 4) (λ i. 5) (λ i. 6) (λ i. 7) 0
+  pub place : placeOf r ≡ choose text events 0 0 (λ i. i) (λ i. i) (λ i. i) (λ i. i) (λ i. i) 0

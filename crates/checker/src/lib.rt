@@ -1,7 +1,7 @@
 // The checker: whether a list of events and its text meet 01's rules, refusals 1 to 7 in the order of their numbers.
 ghost use mathlib.Core.Path.{_≡_};
 ghost use Rattle.check_events.specs.Looked.{Passes};
-ghost use Rattle.checker.specs.Checked.{sizesHold, checkOf, fromFields, fromSlices, fromCounts, fromLabels, numberOf, placeOf};
+ghost use Rattle.checker.specs.Checked.{sizesHold, Checks, fromFields, fromSlices, fromCounts, fromLabels, numberOf, placeOf};
 use check_events::Passed;
 use check_slices::Slices;
 use event::EventIndex;
@@ -26,7 +26,7 @@ pub const MOST_EVENTS: usize = 64000;
 
 // The whole of 01's rules.
 pub fn check(text: &[u8], events: &[u8]) -> Checked
-    ensures { λ r. ⌜ r ≡ checkOf (now (text .entry)) (now (events .entry)) ⌝ }
+    ensures { λ r. ⌜ Checks (now (text .entry)) (now (events .entry)) r ⌝ }
 {
     if !sizes_hold(text, events) {
         return Checked::WrongLength;

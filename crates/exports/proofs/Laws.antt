@@ -2,14 +2,13 @@
 use mathlib.Core.Path.{_≡_, ap, _∙_}
 use mathlib.Core.List.{List}
 use Prim.Native.Nat.{ℕ, _+_, _^_}
-use lib.ListN.{length}
 use Rattle.bundle.specs.declared.Answer.{Answer}
 use Rattle.bundle.specs.Read.{numberOf, HasRead}
 use Rattle.checker.specs.declared.Checked.{Checked}
 use Rattle.checker.specs.Checked as Checked
-use Rattle.checker.specs.Checked.{checkOf}
+use Rattle.checker.specs.Checked.{checkOf, Checks}
 use Rattle.written.specs.declared.Written.{Written}
-use Rattle.written.specs.Written.{bytesOf, Wrote}
+use Rattle.written.specs.Written.{Wrote}
 use Rattle.machine.specs.declared.Options.{Options}
 use Rattle.built.specs.declared.Built.{Built}
 use Rattle.built.specs.declared.Built.the-variants.{Refused}
@@ -17,14 +16,13 @@ use Rattle.build.specs.Build.{Builds}
 use Rattle.exports.specs.Packed.{packed, HasNumber, Packs, plain, packedBuilt, PacksBuilt}
 
 pub packs : {text result d e : List ℕ} {w : Written} {r : ℕ} → Wrote text result d e w → r ≡ packed w → Packs text result d e r
-packs {result = result} {d = d} p q =
-    record { answer = q ∙ ap packed (p .answer); bytes = p .bytes ∙ ap (λ (w : Written). bytesOf w result (length d)) (p .answer) }
+packs {w = w} p q = record { answer = w; wrote = p; packs = q }
 
 pub numbers : {bundle t e u f : List ℕ} {a : Answer} {r : ℕ} → HasRead bundle t e u f a → r ≡ numberOf a → HasNumber bundle t e u f r
-numbers p q = record { answer = q ∙ ap numberOf (p .answer); text = p .text; events = p .events }
+numbers {a = a} p q = record { answer = a; reads = p; number = q }
 
-pub checks : (text events : List ℕ) {c : Checked} {r : ℕ} → c ≡ checkOf text events → r ≡ Checked.numberOf c → r ≡ Checked.numberOf (checkOf text events)
-checks text events p q = q ∙ ap Checked.numberOf p
+pub checks : (text events : List ℕ) {c : Checked} {r : ℕ} → Checks text events c → r ≡ Checked.numberOf c → r ≡ Checked.numberOf (checkOf text events)
+checks text events p q = q ∙ ap Checked.numberOf (p .answer)
 
 pub packs-built : {text events out work out′ work′ : List ℕ} {o : Options} {b : Built} {r : ℕ} → o ≡ plain → Builds text events o out work out′ work′ b → r ≡ packedBuilt b → PacksBuilt text events out work out′ work′ r
 packs-built {b = b} e k q = record { answer = b; builds = rw (← e) k; packs = q }

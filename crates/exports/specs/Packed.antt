@@ -4,16 +4,17 @@ use mathlib.Core.Bool.{false}
 use mathlib.Core.List.{List}
 use Prim.Native.Nat.{ℕ, _+_, _^_}
 use lib.ListN.{length}
+use Rattle.bundle.specs.declared.Answer.{Answer}
 use Rattle.bundle.specs.Read
 use Rattle.bundle_parts.specs.Late.{callLate}
 use Rattle.written.specs.declared.Written.{Written}
 use Rattle.written.specs.declared.Written.the-variants.{Length, TooLong, NotUtf8, NoRoom}
-use Rattle.written.specs.Written.{numberOf, answerOf, bytesOf}
-use Rattle.checker.specs.Checked as Checked
+use Rattle.written.specs.Written.{numberOf, Wrote}
 use Rattle.machine.specs.declared.Options.{Options}
 use Rattle.machine.specs.declared.Ending.the-variants.{Lf}
 use Rattle.built.specs.declared.Built.{Built}
 use Rattle.built.specs.declared.Built.the-variants.{Page, Refused, WorkFull, PageFull}
+use Rattle.built.specs.Built as B
 use Rattle.build.specs.Build.{Builds}
 
 abbrev pub packed : Written → ℕ
@@ -24,14 +25,15 @@ packed NoRoom = 2 ^ 63 + numberOf NoRoom
 
 -- as `Wrote` of the page's calls, with the number for the answer
 pub record Packs (text result d e : List ℕ) (r : ℕ) : Type 0 where
-  pub answer : r ≡ packed (answerOf text result (length d))
-  pub bytes : e ≡ bytesOf (answerOf text result (length d)) result (length d)
+  pub answer : Written
+  pub wrote : Wrote text result d e answer
+  pub packs : r ≡ packed answer
 
 -- as `HasRead` of the bundle reader, with 01's number for the answer
 pub record HasNumber (bundle t e u f : List ℕ) (r : ℕ) : Type 0 where
-  pub answer : r ≡ Read.numberOf (Read.answerOf (Read.callOf bundle (length t) (length e)))
-  pub text : u ≡ Read.textBytes (Read.callOf bundle (length t) (length e)) (length t)
-  pub events : f ≡ Read.eventBytes (Read.callOf bundle (length t) (length e)) (length e)
+  pub answer : Answer
+  pub reads : Read.HasRead bundle t e u f answer
+  pub number : r ≡ Read.numberOf answer
 
 -- the same for the reader in parts
 pub record HasNumberLate (bundle t e u f : List ℕ) (r : ℕ) : Type 0 where
@@ -45,9 +47,9 @@ plain = record { «allow_dangerous_html» = false; «allow_dangerous_protocol» 
 
 abbrev pub packedBuilt : Built → ℕ
 packedBuilt (Page n) = n
-packedBuilt (Refused c) = 2 ^ 63 + Checked.numberOf c
-packedBuilt (WorkFull i) = 2 ^ 63 + 8
-packedBuilt (PageFull i) = 2 ^ 63 + 9
+packedBuilt (Refused c) = 2 ^ 63 + B.numberOf (Refused c)
+packedBuilt (WorkFull i) = 2 ^ 63 + B.numberOf (WorkFull i)
+packedBuilt (PageFull i) = 2 ^ 63 + B.numberOf (PageFull i)
 
 -- as `Builds` of the build, with the number for the answer
 pub record PacksBuilt (text events out work out′ work′ : List ℕ) (r : ℕ) : Type 0 where

@@ -14,8 +14,8 @@ use Rattle.bundle_parts.specs.Late.{callLate}
 use Rattle.bundle_parts.specs.Parts.{joined, fedOf}
 use Rattle.built.specs.declared.Built.{Built}
 use Rattle.built.specs.declared.Built.the-variants as B
+use Rattle.built.specs.Built.{numberOf, valueOf}
 use Rattle.build.specs.Build.{Ends}
-use Rattle.checker.specs.Checked as C
 use Rattle.notepage.specs.declared.Shown.{Shown}
 use Rattle.notepage.specs.declared.Shown.the-variants.{Page, Refused, Unread}
 
@@ -24,9 +24,9 @@ offOf = record { «allow_dangerous_html» = false; «allow_dangerous_protocol» 
 
 abbrev pub shownOf : Built → Shown
 shownOf (B.Page n) = Page n
-shownOf (B.Refused c) = Refused (C.numberOf c) (C.placeOf c)
-shownOf (B.WorkFull i) = Refused 8 (i .0)
-shownOf (B.PageFull i) = Refused 9 (i .0)
+shownOf (B.Refused c) = Refused (numberOf (B.Refused c)) (valueOf (B.Refused c))
+shownOf (B.WorkFull i) = Refused (numberOf (B.WorkFull i)) (valueOf (B.WorkFull i))
+shownOf (B.PageFull i) = Refused (numberOf (B.PageFull i)) (valueOf (B.PageFull i))
 
 -- the note is built; s is what the program shows, and out′ what the output holds then
 pub record ShowsNote (text events out work out′ : List ℕ) (s : Shown) : Type 0 where

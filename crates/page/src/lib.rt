@@ -9,7 +9,7 @@ ghost use Rattle.normalize_identifier.specs.Identity.{identityOf};
 ghost use Rattle.bundle.specs.Read.{HasRead};
 ghost use Rattle.bundle_writer.specs.Packed.{HasPacked};
 ghost use Rattle.bundle_parts.specs.Feed.{standOf, startOf, feedOf, endOf};
-ghost use Rattle.checker.specs.Checked.{checkOf};
+ghost use Rattle.checker.specs.Checked.{Checks};
 ghost use Rattle.build.specs.Build.{Builds};
 ghost use Rattle.written.specs.Written.{numberOf, valueOf, Wrote};
 use bundle_parts::Progress;
@@ -54,7 +54,7 @@ pub fn identity(label: &[u8], out: &mut [u8]) -> Written
 
 // Whether a text and its events meet 01's rules.
 pub fn check(text: &[u8], events: &[u8]) -> checker::Checked
-    ensures { λ r. ⌜ r ≡ checkOf (now (text .entry)) (now (events .entry)) ⌝ }
+    ensures { λ r. ⌜ Checks (now (text .entry)) (now (events .entry)) r ⌝ }
 {
     checker::check(text, events)
 }

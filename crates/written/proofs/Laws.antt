@@ -1,6 +1,7 @@
 -- What the public calls go by, and that two results that meet a contract are equal. Assumes nothing.
 use mathlib.Core.Path.{_≡_, refl, sym, ap, _∙_}
 use mathlib.Core.Bool.{Bool, true, false, not}
+use mathlib.Core.Logic.{_⊎_, ⊎-elim, inl, inr}
 use mathlib.Core.List.{List, [], _++_}
 use Prim.Native.Nat.{ℕ, _+_, _-_, _≤_, _<_}
 use native.Mathlib.Decide.{decLe}
@@ -17,13 +18,11 @@ use Rattle.written.specs.declared.Taken.{Taken}
 use Rattle.written.specs.declared.Taken.the-variants.{Yes, Refused}
 use Rattle.written.specs.declared.Written.{Written}
 use Rattle.written.specs.declared.Written.the-variants.{Length, TooLong, NotUtf8, NoRoom}
-use Rattle.written.specs.Written.{answerOf, bytesOf, takenOf, Ended, Refuses, Wrote}
+use Rattle.written.specs.Written.{choose, takenOf, Ended, Refuses, Wrote}
 
 -- two results that meet a contract are equal
 pub unique : {text result d e f : List ℕ} {a b : Written} → Wrote text result d e a → Wrote text result d f b → (a ≡ b) × (e ≡ f)
-unique {result = result} {d = d} p q =
-    let h = p .answer ∙ sym (q .answer) in
-    (h, p .bytes ∙ ap (λ (w : Written). bytesOf w result (length d)) h ∙ sym (q .bytes))
+unique p q = (p .answer ∙ sym (q .answer), p .bytes ∙ sym (q .bytes))
 
 -- ---- 1 and 2
 
@@ -42,11 +41,11 @@ module _ (text : List ℕ) where
     not-utf8 q = rw (le-ltb 64000 (length text) h, ← p, q)
 
 -- the two tests, as Bools
-refused-case : (long valid : Bool) (w rest : Written) (result : List ℕ) (room : ℕ) → (if long then Refused TooLong else if valid then Yes else Refused NotUtf8) ≡ Refused w
-    → (w ≡ (if long then TooLong else if not valid then NotUtf8 else rest)) × (zeros room ≡ bytesOf w result room)
-refused-case true valid w rest result room p = let q : w ≡ TooLong = cc in (q, rw q)
-refused-case false true w rest result room p = let z : _≡_ {A = ℕ} 0 1 = cc in absurd (omega arith)
-refused-case false false w rest result room p = let q : w ≡ NotUtf8 = cc in (q, rw q)
+refused-case : (long valid : Bool) (w : Written) → (if long then Refused TooLong else if valid then Yes else Refused NotUtf8) ≡ Refused w
+    → ((long ≡ true) × (w ≡ TooLong)) ⊎ ((long ≡ false) × (valid ≡ false) × (w ≡ NotUtf8))
+refused-case true valid w p = inl (refl, cc)
+refused-case false true w p = let z : _≡_ {A = ℕ} 0 1 = cc in absurd (omega arith)
+refused-case false false w p = inr (refl, refl, cc)
 
 yes-case : (long valid : Bool) → (if long then Refused TooLong else if valid then Yes else Refused NotUtf8) ≡ Yes → (long ≡ false) × (valid ≡ true)
 yes-case true valid p = let z : _≡_ {A = ℕ} 0 1 = cc in absurd (omega arith)
@@ -54,10 +53,16 @@ yes-case false true p = (refl, refl)
 yes-case false false p = let z : _≡_ {A = ℕ} 0 1 = cc in absurd (omega arith)
 
 pub refused : {text result d e : List ℕ} {t : Taken} {w r : Written} → t ≡ takenOf text → t ≡ Refused w → Refuses d w e r → Wrote text result d e r
-unfolding takenOf answerOf
+unfolding takenOf choose
 refused {text} {result} {d} {e} {t} {w} {r} p q h =
-    let k = refused-case (ltb 64000 (length text)) (isUtf8 text) w (if ltb (length d) (length result) then NoRoom else Length (length result)) result (length d) (sym p ∙ q) in
-    record { answer = h .answer ∙ k .0; bytes = h .bytes ∙ k .1 ∙ ap (λ (x : Written). bytesOf x result (length d)) (sym (h .answer)) }
+    ⊎-elim
+    (λ k.
+    let a : r ≡ TooLong = h .answer ∙ k .1 in
+    record { answer = rw (k .0) a; number = rw (k .0, a); value = rw (k .0, a); bytes = rw (k .0) (h .bytes) })
+    (λ k.
+    let a : r ≡ NotUtf8 = h .answer ∙ k .2 in
+    record { answer = rw (k .0, k .1) a; number = rw (k .0, k .1, a); value = rw (k .0, k .1, a); bytes = rw (k .0, k .1) (h .bytes) })
+    (refused-case (ltb 64000 (length text)) (isUtf8 text) w (sym p ∙ q))
 
 pub cleared : {d e : List ℕ} {w : Written} → e ≡ take 0 d ++ zeros (length d - 0) → Refuses d w e w
 cleared {d} p = let z : length d - 0 ≡ length d = omega arith in record { answer = refl; bytes = rw z at p }
@@ -73,7 +78,7 @@ module _ (d : List ℕ) (end : ℕ) (e : List ℕ) where
 
 module _ {text result d e f : List ℕ} {t : Taken} {r : Written} {end : ℕ} (p : t ≡ takenOf text) (q : t ≡ Yes) (k : Filled d 0 result e end) (h : Ended e end f r) where
   pub wrote : Wrote text result d f r
-  unfolding takenOf answerOf
+  unfolding takenOf choose
   wrote =
       let y = yes-case (ltb 64000 (length text)) (isUtf8 text) (sym p ∙ q) in
       let l = length-filled k in
@@ -83,16 +88,22 @@ module _ {text result d e f : List ℕ} {t : Taken} {r : Written} {end : ℕ} (p
             let n : end ≡ length result = omega arith in
             let s : take (length result) e ≡ result = rw zero-add at (ap (take (0 + length result)) (k .bytes) ∙ take-fill d 0 result (omega arith)) in
             let a : r ≡ Length (length result) = h .answer ∙ rw (l, n, le-leb (length result) (length d) i) in
+            let v = le-ltb (length d) (length result) i in
             record {
-              answer = a ∙ rw (y .0, y .1, le-ltb (length d) (length result) i);
-              bytes = h .bytes ∙ rw (a, l, n, le-leb (length result) (length d) i, s);
+              answer = rw (y .0, y .1, v) a;
+              number = rw (y .0, y .1, v, a);
+              value = rw (y .0, y .1, v, a);
+              bytes = rw (y .0, y .1, v) (h .bytes ∙ rw (l, n, le-leb (length result) (length d) i, s));
             }
         | no i ↦
             let n : length d < end = omega arith in
             let g : length d < length result = omega arith in
             let a : r ≡ NoRoom = h .answer ∙ rw (l, lt-leb end (length d) n) in
+            let v = lt-ltb (length d) (length result) g in
             record {
-              answer = a ∙ rw (y .0, y .1, lt-ltb (length d) (length result) g);
-              bytes = h .bytes ∙ rw (a, l, lt-leb end (length d) n);
+              answer = rw (y .0, y .1, v) a;
+              number = rw (y .0, y .1, v, a);
+              value = rw (y .0, y .1, v, a);
+              bytes = rw (y .0, y .1, v) (h .bytes ∙ rw (l, lt-leb end (length d) n));
             }
       ]

@@ -27,25 +27,20 @@ valueOf TooLong = 0
 valueOf NotUtf8 = 0
 valueOf NoRoom = 0
 
--- the answer to a text whose result is to be written into a buffer of room bytes: 1 before 2 before 9
-unfoldable pub answerOf : List ℕ → List ℕ → ℕ → Written
-answerOf text result room =
-    if ltb 64000 (length text) then TooLong
-    else if not (isUtf8 text) then NotUtf8
-    else if ltb room (length result) then NoRoom
-    else Length (length result)
-
--- what the buffer holds then: the result and zeros behind it, or zeros alone
-abbrev pub bytesOf : Written → List ℕ → ℕ → List ℕ
-bytesOf (Length n) result room = result ++ zeros (room - n)
-bytesOf TooLong result room = zeros room
-bytesOf NotUtf8 result room = zeros room
-bytesOf NoRoom result room = zeros room
+-- one of four, for a buffer of room bytes: 1 before 2 before 9, before the result
+unfoldable pub choose : {A : Type 0} → (text result : List ℕ) (room : ℕ) → (long other none written : A) → A
+choose text result room long other none written =
+    if ltb 64000 (length text) then long
+    else if not (isUtf8 text) then other
+    else if ltb room (length result) then none
+    else written
 
 -- a call with this text and this result, on the buffer d, answered r and left e
 pub record Wrote (text result d e : List ℕ) (r : Written) : Type 0 where
-  pub answer : r ≡ answerOf text result (length d)
-  pub bytes : e ≡ bytesOf r result (length d)
+  pub answer : r ≡ choose text result (length d) TooLong NotUtf8 NoRoom (Length (length result))
+  pub number : numberOf r ≡ choose text result (length d) 1 2 9 0
+  pub value : valueOf r ≡ choose text result (length d) 0 0 0 (length result)
+  pub bytes : e ≡ choose text result (length d) (zeros (length d)) (zeros (length d)) (zeros (length d)) (result ++ zeros (length d - length result))
 
 -- ---- said for the inner functions, no part of the promise
 
