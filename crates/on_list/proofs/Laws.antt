@@ -14,11 +14,12 @@ use Rattle.machine.specs.Outcome.{go, _>>=_, need}
 use Rattle.machine.specs.Turn.{Turn, lookBack}
 use Rattle.machine.specs.Test.{isOrdered, isLoose, isTight, isTightParagraph, isEmptyItem, tightOf, test}
 use Rattle.machine.specs.Command.{whether}
-use Rattle.machine.specs.Words.{put, tighten}
+use Rattle.machine.specs.Words.{put, lineEnding, tighten, loosen}
+use Rattle.machine.specs.OnList.{onExitList}
 use Rattle.machine.proofs.Outcomes.{never, first-goes}
 use Rattle.context.specs.declared.Context.{Context}
 use Rattle.context.specs.Rel.{Any, Keeps, Sets, Pushes, Tells}
-use Rattle.context.proofs.Commands.{sets, puts, whether-yes, whether-no}
+use Rattle.context.proofs.Commands.{any, seq, sets, puts, whether-yes, whether-no}
 use Rattle.on_list.specs.Lists.{IsOrdered, OpensList, LooksBack, PushesByOrder}
 
 -- ---- the list's event
@@ -36,6 +37,11 @@ module _ {yes no : List ℕ} {c r : Context} {w o w′ o′ : List ℕ} {x : Boo
 
 pub by-order : {a b : String} {c r : Context} {w o w′ o′ : List ℕ} {x : Bool} → PushesByOrder x (bytes a) (bytes b) c w o r w′ o′ → Keeps (IsOrdered x) (whether isOrdered (put a) (put b)) c w o r w′ o′
 by-order {a} {b} k = k .pushes a b refl refl
+
+pub exits-list : {c line r q : Context} {w o w′ o′ w″ o″ : List ℕ} {x : Bool} → Sets loosen c line → Keeps Any lineEnding line w o r w′ o′ → PushesByOrder x (bytes "</ol>") (bytes "</ul>") r w′ o′ q w″ o″
+    → Keeps (IsOrdered x) onExitList c w o q w″ o″
+unfolding onExitList
+exits-list k l m = seq (sets k) (seq (any l) (by-order m))
 
 tells-loose : {c : Context} {x y : Bool} → Tells (OpensList x y) isLoose c y
 unfolding test

@@ -2,9 +2,7 @@
 use borrow.Author.Needs.{needs}
 use Rattle.on_list.proofs.on_exit_list.Statement.{statement}
 use Rattle.on_list.proofs.on_exit_list.Tie as tie
-use Rattle.machine.specs.OnList.{onExitList}
-use Rattle.context.proofs.Commands.{any, seq, sets}
-use Rattle.on_list.proofs.Laws.{by-order}
+use Rattle.on_list.proofs.Laws.{exits-list}
 
 loosen-requires : tie.Need-loosen-requires
 loosen-requires c κs = search needs
@@ -28,12 +26,7 @@ same-length-2 : tie.Need-same-length-2
 same-length-2 c = search needs
 
 returns : tie.Need-returns
-unfolding onExitList
-returns c =
-    let c3 = c .before .before .before .before in
-    let c2 = c3 .before .before .before .before .before .before .before .before .before in
-    let c1 = c2 .before .before .before in
-    seq (sets (c1 .loosen .ensures)) (seq (any (c2 .line-ending .ensures)) (by-order (c3 .push-by-order .ensures)))
+returns c = search exits-list
 
 pub on-exit-list-spec : {M : Type 1} → statement M
 on-exit-list-spec =
