@@ -1,5 +1,6 @@
 pub mod Run
 pub mod Walk
 pub mod Laws
+pub mod Codes
 pub mod Chars
 pub mod Characters

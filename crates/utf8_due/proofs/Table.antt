@@ -1,13 +1,15 @@
 -- What is read off a first byte, each rule one test computed over the bytes, and what any other byte leaves due. Assumes nothing.
 use mathlib.Core.Path.{_≡_, refl, sym, ap, _∙_}
 use mathlib.Core.Bool.{Bool, true, false, _&&_, _||_, and-false}
-use Prim.Native.Nat.{ℕ, suc, _-_, _≤_, _<_}
+use mathlib.Core.List.{[], _∷_}
+use Prim.Native.Nat.{ℕ, suc, suc-le-suc, _+_, _-_, _≤_, _<_}
 use native.Mathlib.Omega.{arith}
 use native.Mathlib.Nat.{lt-of-not-le}
 use native.Mathlib.Decide.{decLe}
 use borrow.Author.Tests.{lt-ltb, le-ltb, ne-eqb, lt-leb, le-leb}
 use lib.Count.{leadingZeros}
 use lib.Dec.{T, eqb, leb, ltb, eqb→eq}
+use lib.ListN.{getD}
 use mir.Syntax.{w8}
 use mir.Val.{Fits}
 use Rattle.lent.specs.Bytes.{if_then_else_, between}
@@ -57,7 +59,7 @@ module _ (b : ℕ) (h : b < 256) where
 
 -- ---- what a first byte leaves due
 
-sameDue : Due → Due → Bool
+unfoldable pub sameDue : Due → Due → Bool
 sameDue First First = true
 sameDue First (More left lo hi) = false
 sameDue First Wrong = false
@@ -68,7 +70,7 @@ sameDue Wrong First = false
 sameDue Wrong (More left lo hi) = false
 sameDue Wrong Wrong = true
 
-same-due : (d e : Due) → T (sameDue d e) → d ≡ e
+pub same-due : (d e : Due) → T (sameDue d e) → d ≡ e
 unfolding sameDue
 same-due First First t = refl
 same-due First (More left lo hi) t = absurd t
@@ -122,20 +124,6 @@ module _ (b n : ℕ) (e : n ≡ lengthOf b) where
   more-due h k lo hi p q =
       rw (e, p, q) (due 0xC2 0xF4 (λ b. More (lengthOf b - 1) (secondFrom b) (secondTo b)) tt b h k)
 
--- by the character's length
-module _ (b : ℕ) where
-  pub two-due : 0xC2 ≤ b → b ≤ 0xDF → More 1 0x80 0xBF ≡ afterFirst b
-  unfolding afterFirst sameDue
-  two-due h k = due 0xC2 0xDF (λ b. More 1 0x80 0xBF) tt b h k
-
-  pub three-due : 0xE0 ≤ b → b ≤ 0xEF → More 2 (secondFrom b) (secondTo b) ≡ afterFirst b
-  unfolding afterFirst sameDue
-  three-due h k = due 0xE0 0xEF (λ b. More 2 (secondFrom b) (secondTo b)) tt b h k
-
-  pub four-due : 0xF0 ≤ b → b ≤ 0xF4 → More 3 (secondFrom b) (secondTo b) ≡ afterFirst b
-  unfolding afterFirst sameDue
-  four-due h k = due 0xF0 0xF4 (λ b. More 3 (secondFrom b) (secondTo b)) tt b h k
-
 -- ---- what every first byte leaves due
 
 -- the next byte due goes on a character
@@ -144,12 +132,30 @@ isSound First = true
 isSound (More left lo hi) = leb 0x80 lo && leb hi 0xBF
 isSound Wrong = true
 
+-- the bits that a first byte begins with, by how many bytes follow it (RFC 3629, section 3)
+abbrev pub lead : ℕ → ℕ
+lead n = getD (0 ∷ 0xC0 ∷ 0xE0 ∷ 0xF0 ∷ []) n 0
+
+-- a byte that begins with the bits of what it leaves due
+abbrev pub isLed : ℕ → Due → Bool
+isLed b First = ltb b 0x80
+isLed b (More left lo hi) = between 1 3 left && between (lead left) (lead left + 31) b
+isLed b Wrong = true
+
+module _ (f : ℕ → Due → Bool) (wrong : (b : ℕ) → T (f b Wrong)) where
+  every-first : T (allBelow 0xF5 (λ b. f b (afterFirst b))) → (b : ℕ) → T (f b (afterFirst b))
+  every-first t b = elim (decLe b 0xF4) [
+    | yes h ↦ computed (λ b. f b (afterFirst b)) 0xF5 t b (suc-le-suc h)
+    | no h ↦ rw (← high-wrong b (lt-of-not-le h)) (wrong b)
+  ]
+
 pub sound-first : (b : ℕ) → T (isSound (afterFirst b))
 unfolding afterFirst
-sound-first b = elim (decLe b 0xF4) [
-  | yes h ↦ ranged 0 0xF4 (λ b. isSound (afterFirst b)) tt b (omega arith) h
-  | no h ↦ rw (← high-wrong b (lt-of-not-le h)) tt
-]
+sound-first b = every-first (λ b d. isSound d) (λ b. tt) tt b
+
+pub led-first : (b : ℕ) → T (isLed b (afterFirst b))
+unfolding afterFirst
+led-first b = every-first isLed (λ b. tt) tt b
 
 -- ---- what is due behind a byte
 
