@@ -1,25 +1,26 @@
--- The place that the pass gives: some list that begins with the tags before it nests. Assumes nothing.
-use mathlib.Core.Path.{_≡_, refl, sym, ap, _∙_}
+-- The place that the pass gives: some list that begins with the tags before it nests, and no more than 64 are open there. Assumes nothing.
+use mathlib.Core.Path.{_≡_, refl, sym, _∙_}
 use mathlib.Core.Bool.{Bool, true, false, _&&_, false≢true}
 use mathlib.Core.List.{List, [], _∷_, _++_}
 use Prim.Native.Nat.{ℕ, zero, suc, _+_, _≤_, _<_}
 use native.Mathlib.Omega.{arith}
 use lib.Dec.{leb}
 use lib.ListN.{length, take}
+use lib.Seq.{take-nil}
 use borrow.Author.Tests.{eq-eqb, leb-true, leb-false}
 use Rattle.lent.specs.Bytes.{oneOf}
 use Rattle.lent.proofs.Laws.{and-left, and-right}
 use Rattle.nesting.specs.declared.Nesting.the-variants.{At}
 use Rattle.nesting.specs.Grammar.{Item, one, opt, any, chain, nameOf, holds, rules, whole}
 use Rattle.nesting.specs.Tag.{Tag, exit, openBehind}
-use Rattle.nesting.specs.Nests.{Forest, nil, tree, depth, events, Takes, nothing, one-taken, opt-none, any-none, chain-none, Children, none, child, Nests}
+use Rattle.nesting.specs.Nests.{Forest, nil, tree, depth, events, Takes, nothing, one-taken, opt-none, any-none, chain-none, Children, none, child, NestsWithin}
 use Rattle.nesting.specs.Pass.{done, Rest, shut, rest, entered, turn, Open, go, nestFrom, nestOf}
 use Rattle.nesting.proofs.Next.{ends}
 use Rattle.nesting.proofs.Clear.{clear, each-holds, clear-holds}
 use Rattle.nesting.proofs.Steps.{Kept, next-kept, clear-kept, takes-steps}
-use Rattle.nesting.proofs.Step.{closed-end, Moves, enters, leaves, closes, goes, refuses, moves, first}
+use Rattle.nesting.proofs.Step.{closed-end, Moves, enters, leaves, closes, goes, move-open, few-open, under, refuses, moves, first}
 use Rattle.nesting.proofs.Passes.{Passes, pass}
-use Rattle.nesting.proofs.Grows.{Way, by-through, by-empty, by-child, way, yes-nests}
+use Rattle.nesting.proofs.Grows.{Way, by-through, by-empty, by-child, way, yes-within}
 
 -- the required items of a rule, filled with the smallest that they take, at most d deep
 record Filled (d : ℕ) (is : List Item) : Type 0 where
@@ -108,60 +109,63 @@ unfolding turn
 fine-turn shut n f e = let z : _≡_ {A = ℕ} 0 1 = cc in absurd (omega arith)
 fine-turn (rest q) n f e = fine-way q n f (rw e at (way q n))
 
-fine-move : {t : Tag} {r r′ : Rest} {os os′ : List Open} → Moves t r os (go r′ os′) → Fine r → AllFine os → Fine r′ × AllFine os′
+fine-move : {t : Tag} {r r′ : Rest} {os os′ : List Open} → Moves 64 t r os (go r′ os′) → Fine r → AllFine os → Fine r′ × AllFine os′
 fine-move (enters {n} {r} l e) f a = let g = fine-turn r n f e in (g .0, (g .1, a))
 fine-move (leaves e l) f a = (f, a .1)
 fine-move (closes e l m) f a = (a .0, a .1)
 
-move-open : {t : Tag} {r r′ : Rest} {os os′ : List Open} → Moves t r os (go r′ os′) → (ts : List Tag) → openBehind (length os) (t ∷ ts) ≡ openBehind (length os′) ts
-move-open (enters l e) ts = refl
-move-open (leaves {os = os} e l) ts = ap (λ (d : ℕ). openBehind d ts) (omega arith)
-move-open (closes {os = os} e l m) ts = ap (λ (d : ℕ). openBehind d ts) (omega arith)
-
--- where the tags lead
+-- where the tags lead: 64 are open at most, and three more fill what they lack
 record Reached (r : Rest) (os : List Open) (ts : List Tag) : Type 0 where
   to : Rest
   now-open : List Open
   fine : Fine to
   all-fine : AllFine now-open
-  count : length now-open ≡ openBehind (length os) ts
-  back : (more : List Tag) → Passes to now-open more → Passes r os (ts ++ more)
+  few : length now-open ≤ 64
+  along : (k : ℕ) → openBehind (length os) (take k ts) ≤ 64
+  back : (more : List Tag) → Passes 67 to now-open more → Passes 67 r os (ts ++ more)
 
-here : (r : Rest) (os : List Open) → Fine r → AllFine os → Reached r os []
-here r os f a = record { to = r; now-open = os; fine = f; all-fine = a; count = refl; back = λ more p. p }
+here : (r : Rest) (os : List Open) → Fine r → AllFine os → length os ≤ 64 → Reached r os []
+here r os f a l = record { to = r; now-open = os; fine = f; all-fine = a; few = l; along = λ k. rw take-nil l; back = λ more p. p }
 
-reach : (n : ℕ) (ts : List Tag) (i : ℕ) (r : Rest) (os : List Open) → nestFrom i r os ts ≡ At (i + n) → Fine r → AllFine os → Reached r os (take n ts)
-reach zero ts i r os e f a = here r os f a
-reach (suc n) [] i r os e f a = here r os f a
-reach (suc n) (t ∷ ts) i r os e f a = elim (first t r os) [
+step-along : {t : Tag} {r r′ : Rest} {os os′ : List Open} → Moves 64 t r os (go r′ os′) → length os ≤ 64 → (ts : List Tag)
+    → ((k : ℕ) → openBehind (length os′) (take k ts) ≤ 64) → (k : ℕ) → openBehind (length os) (take k (t ∷ ts)) ≤ 64
+step-along m l ts f zero = l
+step-along m l ts f (suc k) = rw (move-open m (take k ts)) (f k)
+
+reach : (n : ℕ) (ts : List Tag) (i : ℕ) (r : Rest) (os : List Open) → nestFrom 64 i r os ts ≡ At (i + n) → Fine r → AllFine os → length os ≤ 64 → Reached r os (take n ts)
+reach zero ts i r os e f a l = here r os f a l
+reach (suc n) [] i r os e f a l = here r os f a l
+reach (suc n) (t ∷ ts) i r os e f a l = elim (first 64 t r os) [
   | refuses g ↦ let c = g i ts in let z : i ≡ i + suc n = cc in absurd (omega arith)
   | moves r′ os′ m ↦
       let b = fine-move m f a in
+      let h = few-open m l in
       let j : i + suc n ≡ i + 1 + n = omega arith in
-      let w = reach n ts (i + 1) r′ os′ (sym (goes i ts m) ∙ (rw j at e)) (b .0) (b .1) in
+      let w = reach n ts (i + 1) r′ os′ (sym (goes i ts m) ∙ (rw j at e)) (b .0) (b .1) h in
       record {
         to = w .to;
         now-open = w .now-open;
         fine = w .fine;
         all-fine = w .all-fine;
-        count = w .count ∙ sym (move-open m (take n ts));
-        back = λ more p k. goes k (take n ts ++ more) m ∙ w .back more p (k + 1);
+        few = w .few;
+        along = step-along m l (take n ts) (w .along);
+        back = λ more p k. goes k (take n ts ++ more) (under 67 m (omega arith)) ∙ w .back more p (k + 1);
       }
 ]
 
 -- a way to the end
 abbrev Ending : Rest → List Open → Type 0
-Ending r os = (more : List Tag) × Passes r os more
+Ending r os = (more : List Tag) × Passes 67 r os more
 
-filled : (q : List Item) (os : List Open) (ts : List Tag) → Fine (rest q) → length os ≤ 61
-    → ((t : List Item) → done t ≡ true → Passes (rest t) os ts) → Ending (rest q) os
+filled : (q : List Item) (os : List Open) (ts : List Tag) → Fine (rest q) → length os ≤ 64
+    → ((t : List Item) → done t ≡ true → Passes 67 (rest t) os ts) → Ending (rest q) os
 filled q os ts f l p =
     let w = fill 3 q (f .1) in
     let c = takes-steps q (w .kinds) (f .0) (w .takes) in
-    (events (w .forest) ts, pass (w .fits) q (c .0) (c .1) os ts (omega (arith, w .deep)) (p (c .0) (c .2)))
+    (events (w .forest) ts, pass 67 (w .fits) q (c .0) (c .1) os ts (omega (arith, w .deep)) (p (c .0) (c .2)))
 
-ending : (r : Rest) (os : List Open) → Fine r → AllFine os → length os ≤ 61 → Ending r os
-ending r [] f a l = ([], λ i. closed-end i r)
+ending : (r : Rest) (os : List Open) → Fine r → AllFine os → length os ≤ 64 → Ending r os
+ending r [] f a l = ([], λ i. closed-end 67 i r)
 ending r (o ∷ os) f a l = pick (leb (o .name) 2) refl (λ r′ g. ending r′ os g (a .1) (omega arith))
   where
     closing : (r : Rest) → 2 < o .name → Fine r → Ending (o .behind) os → Ending r (o ∷ os)
@@ -172,10 +176,16 @@ ending r (o ∷ os) f a l = pick (leb (o .name) 2) refl (λ r′ g. ending r′ 
     pick true p ih = let w = ih r f in (exit (o .name) ∷ w .0, λ i. goes i (w .0) (leaves refl (leb-true (o .name) 2 p)) ∙ w .1 (i + 1))
     pick false p ih = closing r (leb-false (o .name) 2 p) f (ih (o .behind) (a .0))
 
-pub before-fault : (ts : List Tag) (i : ℕ) → nestOf ts ≡ At i → openBehind 0 (take i ts) ≤ 61 → (more : List Tag) × Nests (take i ts ++ more)
-unfolding nestOf
-before-fault ts i e l =
-    let z : i ≡ 0 + i = omega arith in
-    let w = reach i ts 0 (rest whole) [] (rw z at e) (refl, refl) tt in
-    let c = ending (w .to) (w .now-open) (w .fine) (w .all-fine) (omega (arith, w .count)) in
-    (c .0, yes-nests (take i ts ++ c .0) (w .back (c .0) (c .1) 0))
+module _ (ts : List Tag) (i : ℕ) (e : nestOf ts ≡ At i) where
+  reached : Reached (rest whole) [] (take i ts)
+  unfolding nestOf
+  reached = let z : i ≡ 0 + i = omega arith in reach i ts 0 (rest whole) [] (rw z at e) (refl, refl) tt (omega arith)
+
+  pub before-fault : (more : List Tag) × NestsWithin 67 (take i ts ++ more)
+  before-fault =
+      let w = reached in
+      let c = ending (w .to) (w .now-open) (w .fine) (w .all-fine) (w .few) in
+      (c .0, yes-within 67 (take i ts ++ c .0) (w .back (c .0) (c .1) 0))
+
+  pub open-before : (k : ℕ) → openBehind 0 (take k (take i ts)) ≤ 64
+  open-before = reached .along

@@ -41,7 +41,7 @@ stack-kept (suc d) e ns bs x y h =
 -- ---- what is left, from the tag i on
 
 abbrev pub left : List ℕ → List ℕ → List ℕ → ℕ → ℕ → ℕ → Nesting
-left b ns bs d q i = nestFrom i (state q) (stackOf d ns bs) (tags (length b / 20 - i) (drop (i * 20) b))
+left b ns bs d q i = nestFrom 64 i (state q) (stackOf d ns bs) (tags (length b / 20 - i) (drop (i * 20) b))
 
 pub record Inv (b ns bs : List ℕ) (d q i : ℕ) : Type 0 where
   pub within : i ≤ length b / 20
@@ -88,17 +88,17 @@ module _ {b ns bs : List ℕ} {d q i : ℕ} (v : Inv b ns bs d q i) (more : i < 
   newest : (d ≡ 0 → ⊥) → os ≡ top ∷ stackOf (d - 1) ns bs
   newest h = let e : d ≡ suc (d - 1) = omega arith in ap (λ (x : ℕ). stackOf x ns bs) e
 
-  refuse : (t : Tag) → here ≡ t ∷ behind → step t (state q) os ≡ stop → At i ≡ nestOf (tagsOf b)
-  refuse t p e = sym (stops i t behind (state q) os e) ∙ (rw p at (v .same))
+  refuse : (t : Tag) → here ≡ t ∷ behind → step 64 t (state q) os ≡ stop → At i ≡ nestOf (tagsOf b)
+  refuse t p e = sym (stops 64 i t behind (state q) os e) ∙ (rw p at (v .same))
 
-  pass : {t : Tag} {r : Rest} {ps : List Open} → here ≡ t ∷ behind → Moves t (state q) os (go r ps) → nestFrom (i + 1) r ps behind ≡ nestOf (tagsOf b)
+  pass : {t : Tag} {r : Rest} {ps : List Open} → here ≡ t ∷ behind → Moves 64 t (state q) os (go r ps) → nestFrom 64 (i + 1) r ps behind ≡ nestOf (tagsOf b)
   pass p m = sym (goes i behind m) ∙ (rw p at (v .same))
 
   pub too-deep : kind ≡ 0 → d ≡ 64 → At i ≡ nestOf (tagsOf b)
-  too-deep k e = refuse (enter name) (entering k) (too-many name (state q) os (omega (arith, stack-length d ns bs)))
+  too-deep k e = refuse (enter name) (entering k) (too-many 64 name (state q) os (omega (arith, stack-length d ns bs)))
 
   pub untaken : (r : Entry) → kind ≡ 0 → Enters (turn (state q) name) r → r ≡ Refused → At i ≡ nestOf (tagsOf b)
-  untaken r k a e = refuse (enter name) (entering k) (not-entered name (state q) os (is-refused (turn (state q) name) (rw e at a)))
+  untaken r k a e = refuse (enter name) (entering k) (not-entered 64 name (state q) os (is-refused (turn (state q) name) (rw e at a)))
 
   pub taken : (r : Entry) (x y : ℕ) → kind ≡ 0 → (d ≡ 64 → ⊥) → Enters (turn (state q) name) r → r ≡ Into x y → Inv b (set ns d name) (set bs d y) (d + 1) x (i + 1)
   taken r x y k l a e =
@@ -119,10 +119,10 @@ module _ {b ns bs : List ℕ} {d q i : ℕ} (v : Inv b ns bs d q i) (more : i < 
       }
 
   pub unopened : (kind ≡ 0 → ⊥) → d ≡ 0 → At i ≡ nestOf (tagsOf b)
-  unopened k e = refuse (exit name) (exiting k) (rw e (none-open name (state q)))
+  unopened k e = refuse (exit name) (exiting k) (rw e (none-open 64 name (state q)))
 
   pub unleft : (r : Exit) → (kind ≡ 0 → ⊥) → (d ≡ 0 → ⊥) → Leaves (leave (state q) top name) r → r ≡ Stays → At i ≡ nestOf (tagsOf b)
-  unleft r k h a e = refuse (exit name) (exiting k) (rw (newest h) (not-left name (state q) top (stackOf (d - 1) ns bs) (stays (leave (state q) top name) (rw e at a))))
+  unleft r k h a e = refuse (exit name) (exiting k) (rw (newest h) (not-left 64 name (state q) top (stackOf (d - 1) ns bs) (stays (leave (state q) top name) (rw e at a))))
 
   pub left-to : (r : Exit) (x : ℕ) → (kind ≡ 0 → ⊥) → (d ≡ 0 → ⊥) → Leaves (leave (state q) top name) r → r ≡ To x → Inv b ns bs (d - 1) x (i + 1)
   left-to r x k h a e =
@@ -134,7 +134,7 @@ module _ {b ns bs : List ℕ} {d q i : ℕ} (v : Inv b ns bs d q i) (more : i < 
         behind-long = v .behind-long;
         in-states = w .0;
         all-states = λ j m. v .all-states j (omega arith);
-        same = pass (exiting k) (rw (newest h) (by-step (is-left name (state q) top (stackOf (d - 1) ns bs) (w .1))));
+        same = pass (exiting k) (rw (newest h) (by-step (is-left 64 name (state q) top (stackOf (d - 1) ns bs) (w .1))));
       }
 
 module _ {b ns bs : List ℕ} {d q i : ℕ} (v : Inv b ns bs d q i) (end : length b / 20 ≤ i) where
@@ -142,13 +142,13 @@ module _ {b ns bs : List ℕ} {d q i : ℕ} (v : Inv b ns bs d q i) (end : lengt
   none-left = let z : length b / 20 - i ≡ 0 = omega arith in rw z
 
   pub all-closed : d ≡ 0 → Yes ≡ nestOf (tagsOf b)
-  all-closed e = sym (closed-end i (state q)) ∙ (rw (none-left, e) at (v .same))
+  all-closed e = sym (closed-end 64 i (state q)) ∙ (rw (none-left, e) at (v .same))
 
   pub left-open : (d ≡ 0 → ⊥) → At (length b / 20) ≡ nestOf (tagsOf b)
   left-open h =
       let p : i ≡ length b / 20 = omega (arith, v .within) in
       let s : d ≡ suc (d - 1) = omega arith in
-      ap At (sym p) ∙ sym (open-end i (state q) _ (stackOf (d - 1) ns bs)) ∙ (rw (none-left, s) at (v .same))
+      ap At (sym p) ∙ sym (open-end 64 i (state q) _ (stackOf (d - 1) ns bs)) ∙ (rw (none-left, s) at (v .same))
 
 pub at-first : (b ns bs : List ℕ) → length ns ≡ 64 → length bs ≡ 64 → Inv b ns bs 0 1 0
 unfolding nestOf state states

@@ -47,11 +47,15 @@ pub data Children : List ℕ → Forest → Type 0 where
   -- any other
   child : {k : ℕ} {ks ls : List ℕ} {cs f : Forest} → 5 ≤ nameOf k → Takes (holds k) ks → Children ks cs → Children ls f → Children (k ∷ ls) (tree (nameOf k) cs f)
 
--- enters and exits pair by name: the list is a forest's, which the whole takes, with at most 64 open at once
-pub record Nests (ts : List Tag) : Type 0 where
+-- enters and exits pair by name: the list is a forest's, which the whole takes, with at most `most` open at once
+pub record NestsWithin (most : ℕ) (ts : List Tag) : Type 0 where
   pub forest : Forest
   pub kinds : List ℕ
   pub same : ts ≡ events forest []
   pub fits : Children kinds forest
   pub takes : Takes whole kinds
-  pub deep : depth forest ≤ 64
+  pub deep : depth forest ≤ most
+
+-- at most 64 are open at once
+abbrev pub Nests : List Tag → Type 0
+Nests ts = NestsWithin 64 ts

@@ -92,20 +92,21 @@ abbrev pub closed : List Open → Option Rest → Step
 closed os none = stop
 closed os (some r) = go r os
 
--- at most 64 are open
-unfoldable pub step : Tag → Rest → List Open → Step
-step (enter n) r os = if leb 64 (length os) then stop else opened n os (turn r n)
-step (exit n) r [] = stop
-step (exit n) r (o ∷ os) = closed os (leave r o n)
+-- at most `most` are open
+unfoldable pub step : (most : ℕ) → Tag → Rest → List Open → Step
+step most (enter n) r os = if leb most (length os) then stop else opened n os (turn r n)
+step most (exit n) r [] = stop
+step most (exit n) r (o ∷ os) = closed os (leave r o n)
 
 abbrev pub ended : ℕ → List Open → Nesting
 ended i [] = Yes
 ended i (o ∷ os) = At i
 
 -- from the tag i on
-unfoldable pub nestFrom : ℕ → Rest → List Open → List Tag → Nesting
-nestFrom i r os [] = ended i os
-nestFrom i r os (t ∷ ts) = elim (step t r os) [ stop ↦ At i | go r′ os′ ↦ nestFrom (i + 1) r′ os′ ts ]
+unfoldable pub nestFrom : (most i : ℕ) → Rest → List Open → List Tag → Nesting
+nestFrom most i r os [] = ended i os
+nestFrom most i r os (t ∷ ts) = elim (step most t r os) [ stop ↦ At i | go r′ os′ ↦ nestFrom most (i + 1) r′ os′ ts ]
 
+-- at most 64 are open
 unfoldable pub nestOf : List Tag → Nesting
-nestOf ts = nestFrom 0 (rest whole) [] ts
+nestOf ts = nestFrom 64 0 (rest whole) [] ts

@@ -6,3 +6,5 @@ pub mod Elements
 pub mod Trees
 pub mod Labels
 pub mod Meets
+pub mod Places
+pub mod Only

@@ -24,7 +24,7 @@ use Rattle.nesting.specs.Pass.{nestOf}
 use Rattle.nesting.proofs.Passes.{nests-yes}
 use Rattle.nesting.proofs.Grows.{exactly}
 use Rattle.nesting.proofs.Fault.{within, at-fault}
-use Rattle.nesting.proofs.Ahead.{before-fault}
+use Rattle.nesting.proofs.Ahead.{before-fault, open-before}
 use Rattle.check_fields.specs.declared.Fields.{Fields}
 use Rattle.check_fields.specs.declared.Fields.the-variants as F
 use Rattle.check_fields.specs.Fields.{fieldsOf}
@@ -55,7 +55,7 @@ module _ (text events : List ℕ) where
 
   -- ---- 1 and 2
 
-  sizes-meet : sizesHold text events ≡ true → SizesMeet text events
+  pub sizes-meet : sizesHold text events ≡ true → SizesMeet text events
   sizes-meet p =
       let a = leb (length text) 64000 in
       let b = leb (length events) 64000 in
@@ -63,7 +63,7 @@ module _ (text events : List ℕ) where
       let l = leb-true (length events) 64000 (and-right a b q) in
       record { short = leb-true (length text) 64000 (and-left a b q); whole = eqb-true (length events % 20) 0 (and-right (a && b) (eqb (length events % 20) 0) p); most = omega arith }
 
-  sizes-hold : SizesMeet text events → sizesHold text events ≡ true
+  pub sizes-hold : SizesMeet text events → sizesHold text events ≡ true
   sizes-hold m =
       let w = m .whole in
       let n = m .most in
@@ -71,23 +71,23 @@ module _ (text events : List ℕ) where
 
   -- ---- 3
 
-  fields-break : (i : ℕ) → fieldsOf text events ≡ F.At i → Earliest events (FieldMeets text events) i
+  pub fields-break : (i : ℕ) → fieldsOf text events ≡ F.At i → Earliest events (FieldMeets text events) i
   fields-break i p =
       let f = fields-at text events i .0 p in
       record { within = f .within; breaks = λ m. clash (meets (eventAt events i) text .1 m) (f .fails); before = λ k h. meets (eventAt events k) text .0 (f .before k h) }
 
-  fields-meet : fieldsOf text events ≡ F.Yes → Each events (FieldMeets text events)
+  pub fields-meet : fieldsOf text events ≡ F.Yes → Each events (FieldMeets text events)
   fields-meet p k h = meets (eventAt events k) text .0 (fields-yes text events .0 p k h)
 
   -- ---- 4
 
-  misplaced : (i : ℕ) → nestOf (tagsOf events) ≡ N.At i → Misplaced (tagsOf events) i
+  pub misplaced : (i : ℕ) → nestOf (tagsOf events) ≡ N.At i → Misplaced (tagsOf events) i
   misplaced i p =
       record {
         within = within (tagsOf events) i p;
+        before = (let w = before-fault (tagsOf events) i p in record { more = w .0; most = 67; nests = w .1; few = λ k. omega (arith, open-before (tagsOf events) i p k) });
+        fault = λ h w. at-fault (tagsOf events) i p h (w .few) (w .most) (w .more) (w .nests);
         breaks = λ n. (let q = nests-yes (tagsOf events) n in let z : _≡_ {A = ℕ} 0 1 = cc in absurd (omega arith));
-        fault = at-fault (tagsOf events) i p;
-        before = before-fault (tagsOf events) i p;
       }
 
   -- ---- 5
@@ -98,7 +98,7 @@ module _ (text events : List ℕ) where
   slice-at : (k : ℕ) → k < count → holdsAt (eventHolds text) seenBehind nothingSeen (eventsOf events) k ≡ true → SliceMeets events text k
   slice-at k h p = slice-meets text events k (seenAt events k) (tells events k (omega arith)) (sym (holds-at k h) ∙ p)
 
-  slices-break : (i : ℕ) → slicesOf text events ≡ S.At i → Earliest events (SliceMeets events text) i
+  pub slices-break : (i : ℕ) → slicesOf text events ≡ S.At i → Earliest events (SliceMeets events text) i
   slices-break i p =
       let f = slices-at text events i p in
       let e : f .index ≡ i = omega (arith, f .place) in
@@ -112,7 +112,7 @@ module _ (text events : List ℕ) where
         }
       ]
 
-  slices-meet : slicesOf text events ≡ S.Yes → Each events (SliceMeets events text)
+  pub slices-meet : slicesOf text events ≡ S.Yes → Each events (SliceMeets events text)
   slices-meet p k h = slice-at k h (slices-yes text events p k)
 
   -- ---- the order

@@ -13,7 +13,7 @@ use Rattle.character_reference.specs.declared.Marker.{Marker}
 use Rattle.character_reference.specs.declared.Marker.the-variants.{Named, Decimal, Hexadecimal}
 use Rattle.character_reference.specs.Reference.{referenceOf, isSome}
 use Rattle.nesting.specs.Tag.{Tag, tagsOf, openBehind}
-use Rattle.nesting.specs.Nests.{Nests}
+use Rattle.nesting.specs.Nests.{NestsWithin, Nests}
 use Rattle.check_fields.specs.Rules.{FieldsMeet}
 use Rattle.check_slices.specs.Slices.{isEnding, isItemValue, isLevel, isUnderline, part}
 use Rattle.check_labels.specs.Labels.{identities, isDefined}
@@ -123,12 +123,19 @@ pub record TooMany (es : List Event) (i : ℕ) : Type 0 where
   pub before : CountsMeet (take i es)
   pub breaks : CountsMeet (take (i + 1) es) → ⊥
 
--- the first event that does not fit: no list that goes on from it nests, and one that goes on from before it does, if it may still open what it needs
+-- the first events of a list are in order: some list that goes on from them nests, however deep, and none of them is the 65th open
+pub record InOrder (ts : List Tag) : Type 0 where
+  pub more : List Tag
+  pub most : ℕ
+  pub nests : NestsWithin most (ts ++ more)
+  pub few : (k : ℕ) → openBehind 0 (take k ts) ≤ 64
+
+-- the first events up to i are in order, and with the event i they are not; at the end, elements are left open
 pub record Misplaced (ts : List Tag) (i : ℕ) : Type 0 where
   pub within : i ≤ length ts
+  pub before : InOrder (take i ts)
+  pub fault : i < length ts → InOrder (take (i + 1) ts) → ⊥
   pub breaks : Nests ts → ⊥
-  pub fault : i < length ts → (more : List Tag) → Nests (take (i + 1) ts ++ more) → ⊥
-  pub before : openBehind 0 (take i ts) ≤ 61 → (more : List Tag) × Nests (take i ts ++ more)
 
 -- ---- what the checker's answer says: all rules are met, or the lowest number whose rule is broken, and the first event that breaks it
 
