@@ -15,8 +15,8 @@ use Rattle.lent.proofs.Computed.{is-true, and-left, and-right, from, to}
 use Rattle.utf8_due.proofs.Table.{lead, isSound, isLed, sound-first, led-first}
 use Rattle.utf8.proofs.Run.{never-whole, taken, continues}
 use Rattle.utf8.proofs.Laws.{empty, joined}
-use Rattle.utf8.proofs.Codes.{above, tails, spelled, low-scalar, Tailed}
-use Rattle.utf8.proofs.Chars.{due, tail-due, due-two, char-valid}
+use Rattle.utf8.proofs.Codes.{above, tails, spelled, low-scalar, Tailed, tailed, low, high, fair}
+use Rattle.utf8.proofs.Chars.{due, tail-due, leaves-head, char-valid}
 
 -- ---- tails that stand in a text are those of a code
 
@@ -68,7 +68,7 @@ record Begins (s : List ℕ) : Type 0 where
 
 begun : (n c : ℕ) (s t : List ℕ) → n ≤ 3 → Tailed n c → (lead n + above n c) ∷ tails n c ++ t ≡ s → T (isWhole (run First t)) → Begins s
 begun n c s t l x e w =
-    record { code = c; rest = t; is-scalar = x .fair; split = rw (spelled n c l (x .low) (x .high)) e; whole = w; shorter = omega (arith, length-append (tails n c) t, ap length e) }
+    record { code = c; rest = t; is-scalar = fair n c x; split = rw (spelled n c l (low n c x) (high n c x)) e; whole = w; shorter = omega (arith, length-append (tails n c) t, ap length e) }
 
 -- two bytes and n tails
 module _ (n a b : ℕ) (l : 0x80 ≤ b) (m : b ≤ 0xBF) (g : lead (suc n) ≤ a) (h : a ≤ lead (suc n) + 31) (s : List ℕ) (y : Coded n (on (a - lead (suc n)) b) s) where
@@ -80,14 +80,14 @@ module _ (n a b : ℕ) (l : 0x80 ≤ b) (m : b ≤ 0xBF) (g : lead (suc n) ≤ a
 
   longer : n < 3 → next (afterFirst a) b ≡ due n → Begins (a ∷ b ∷ s)
   longer k e =
-      let t = due-two n (y .code) k (omega (arith, y .head)) (rw (first-is, second-is) e) in
+      let t = leaves-head n (y .code) k (omega (arith, y .head)) (rw (first-is, second-is) e) in
       begun (suc n) (y .code) (a ∷ b ∷ s) (y .rest) k t (rw (first-is, second-is, y .split)) (y .whole)
 
 begins : (a : ℕ) (s : List ℕ) (d : Due) → d ≡ afterFirst a → T (isSound d) → T (isLed a d) → T (isWhole (run d s)) → Begins (a ∷ s)
 begins a s First e p q w =
     let h = ltb→lt a 0x80 q in
     let z : 0 + a ≡ a = omega arith in
-    begun 0 a (a ∷ s) s (omega arith) (record { low = omega arith; high = h; fair = low-scalar a (omega arith) }) (ap (λ (x : ℕ). x ∷ s) z) w
+    begun 0 a (a ∷ s) s (omega arith) (tailed 0 a (omega arith) h (low-scalar a (omega arith))) (ap (λ (x : ℕ). x ∷ s) z) w
 begins a [] (More left lo hi) e p q w = absurd w
 begins a (b ∷ s) (More zero lo hi) e p q w = absurd q
 begins a (b ∷ s) (More (suc n) lo hi) e p q w =

@@ -1,20 +1,20 @@
 -- The bytes of a character are valid, one law for every length. Assumes nothing.
 use mathlib.Core.Path.{_≡_, refl, sym, ap, _∙_}
-use mathlib.Core.Bool.{Bool, true, _&&_, Bool·beq}
+use mathlib.Core.Bool.{Bool, Bool·beq}
 use mathlib.Core.List.{List, _∷_}
 use Prim.Native.Nat.{ℕ, zero, suc, _+_, _-_, _/_, _≤_, _<_}
 use native.Mathlib.Omega.{arith}
-use borrow.Author.Tests.{lt-ltb, le-ltb, le-leb, eq-eqb}
-use lib.Dec.{T, leb, ltb, leb→le, ltb→lt}
+use borrow.Author.Tests.{le-ltb, eq-eqb}
+use lib.Dec.{T}
 use Rattle.lent.specs.Bytes.{between}
 use Rattle.utf8_due.specs.declared.Due.{Due}
 use Rattle.utf8_due.specs.declared.Due.the-variants.{First, More}
 use Rattle.utf8_due.specs.Table.{afterFirst, afterMore, next}
 use Rattle.utf8.specs.Utf8.{run, isUtf8, isScalar, tail, charOf, replacement}
-use Rattle.lent.proofs.Computed.{and-left, and-right, is-true, within, allBelow, computed, agree}
+use Rattle.lent.proofs.Computed.{is-true, within, allBelow, computed, agree}
 use Rattle.utf8_due.proofs.Table.{ascii-due, lead, sameDue, same-due}
 use Rattle.utf8.proofs.Laws.{of-first}
-use Rattle.utf8.proofs.Codes.{least, above, tails, spelled, shifted, above-shifted, Tailed, counted, same-head, head-low}
+use Rattle.utf8.proofs.Codes.{above, tails, spelled, shifted, above-shifted, hasTails, Tailed, low, high, counted, same-head, head-low}
 
 -- ---- the first two bytes of a character
 
@@ -32,26 +32,11 @@ tail-due (suc n) =
 abbrev leaves : ℕ → ℕ → Bool
 leaves n h = sameDue (next (afterFirst (lead (suc n) + h / 64)) (tail h)) (due n)
 
-abbrev hasTails : ℕ → ℕ → Bool
-hasTails n c = leb (least n) c && (ltb c (least (suc n)) && isScalar c)
-
 -- the table of section 4 is that of section 3: two bytes leave n tails due exactly where they are those of a code
 heads : (n h : ℕ) → n < 3 → h < 0x800 → leaves n h ≡ hasTails (suc n) (shifted n h)
 unfolding afterFirst sameDue
 heads n h l k =
     agree (leaves n) (λ h. hasTails (suc n) (shifted n h)) 0x800 (computed (λ n. allBelow 0x800 (λ h. Bool·beq (leaves n h) (hasTails (suc n) (shifted n h)))) 3 tt n l) h k
-
-tailed : (n c : ℕ) → T (hasTails n c) → Tailed n c
-tailed n c t =
-    let u = and-right (leb (least n) c) (ltb c (least (suc n)) && isScalar c) t in
-    record {
-      low = leb→le (least n) c (and-left (leb (least n) c) (ltb c (least (suc n)) && isScalar c) t);
-      high = ltb→lt c (least (suc n)) (and-left (ltb c (least (suc n))) (isScalar c) u);
-      fair = and-right (ltb c (least (suc n))) (isScalar c) u;
-    }
-
-has-tails : (n c : ℕ) → Tailed n c → hasTails n c ≡ true
-has-tails n c t = rw (le-leb (least n) c (t .low), lt-ltb c (least (suc n)) (t .high)) (is-true (isScalar c) (t .fair))
 
 alike : (n : ℕ) → T (sameDue (due n) (due n))
 unfolding sameDue
@@ -59,16 +44,18 @@ alike zero = tt
 alike (suc n) = rw (eq-eqb (suc n) (suc n) refl) tt
 
 module _ (n c : ℕ) (l : n < 3) where
-  pub two-due : Tailed (suc n) c → next (afterFirst (lead (suc n) + above n c / 64)) (tail (above n c)) ≡ due n
-  two-due t =
-      let e = above-shifted n (above n c) in
-      let u = heads n (above n c) l (head-low n c l t) ∙ has-tails (suc n) (shifted n (above n c)) (same-head n c (shifted n (above n c)) l (sym e) t) in
-      same-due _ _ (rw u tt)
+  abbrev Leaves : Type 0
+  Leaves = next (afterFirst (lead (suc n) + above n c / 64)) (tail (above n c)) ≡ due n
 
-  pub due-two : above n c < 0x800 → next (afterFirst (lead (suc n) + above n c / 64)) (tail (above n c)) ≡ due n → Tailed (suc n) c
-  due-two h p =
+  pub head-leaves : Tailed (suc n) c → Leaves
+  head-leaves t =
       let e = above-shifted n (above n c) in
-      same-head n (shifted n (above n c)) c l e (tailed (suc n) (shifted n (above n c)) (rw (← heads n (above n c) l h, p) (alike n)))
+      same-due _ _ (rw (heads n (above n c) l (head-low n c l t)) (same-head n c (shifted n (above n c)) l (sym e) t))
+
+  pub leaves-head : above n c < 0x800 → Leaves → Tailed (suc n) c
+  leaves-head h p =
+      let e = above-shifted n (above n c) in
+      same-head n (shifted n (above n c)) c l e (rw (← heads n (above n c) l h, p) (alike n))
 
 -- ---- each is valid
 
@@ -80,11 +67,11 @@ run-tails zero c = refl
 run-tails (suc n) c = goes (suc n) 0x80 0xBF (tail (above n c)) (tails n c) (omega arith) (omega arith) ∙ rw (tail-due n) (run-tails n c)
 
 valid : (n c : ℕ) → n ≤ 3 → Tailed n c → run First ((lead n + above n c) ∷ tails n c) ≡ First
-valid zero c l t = let e : 0 + c ≡ c = omega arith in rw e (sym (ascii-due c (t .high)))
-valid (suc n) c l t = ap (λ (d : Due). run d (tails n c)) (two-due n c (omega arith) t) ∙ run-tails n c
+valid zero c l t = let e : 0 + c ≡ c = omega arith in rw e (sym (ascii-due c (high 0 c t)))
+valid (suc n) c l t = ap (λ (d : Due). run d (tails n c)) (head-leaves n c (omega arith) t) ∙ run-tails n c
 
 pub char-valid : (c : ℕ) → T (isScalar c) → T (isUtf8 (charOf c))
-char-valid c t = let x = counted c t in of-first (charOf c) (rw (spelled (x .0) c (x .1) (x .2 .low) (x .2 .high)) (valid (x .0) c (x .1) (x .2)))
+char-valid c t = let x = counted c t in of-first (charOf c) (rw (spelled (x .0) c (x .1) (low (x .0) c (x .2)) (high (x .0) c (x .2))) (valid (x .0) c (x .1) (x .2)))
 
 pub replacement-valid : T (isUtf8 replacement)
 unfolding isUtf8 afterFirst

@@ -1,18 +1,18 @@
 -- The codes of characters, by how many tails follow the first byte: numbers alone. Assumes nothing.
 use mathlib.Core.Path.{_≡_, refl}
 use mathlib.Core.Logic.{_⊎_, inl, inr, ⊎-elim}
-use mathlib.Core.Bool.{Bool, true, false, _||_}
+use mathlib.Core.Bool.{Bool, true, false, _&&_, _||_}
 use mathlib.Core.List.{List, [], _∷_}
 use Prim.Native.Nat.{ℕ, zero, suc, _+_, _*_, _/_, _≤_, _<_}
 use native.Mathlib.Nat.{lt-of-not-le}
 use native.Mathlib.Decide.{decLe}
 use native.Mathlib.Omega.{arith}
-use borrow.Author.Tests.{lt-ltb, le-ltb, ltb-true}
-use lib.Dec.{T, ltb}
+use borrow.Author.Tests.{lt-ltb, le-ltb, le-leb, ltb-true}
+use lib.Dec.{T, leb, ltb, leb→le, ltb→lt}
 use lib.ListN.{getD}
 use Rattle.lent.specs.Bytes.{between}
 use Rattle.utf8.specs.Utf8.{isScalar, tail, charOf}
-use Rattle.lent.proofs.Computed.{within, from, to}
+use Rattle.lent.proofs.Computed.{and-left, and-right, within, from, to}
 use Rattle.utf8_due.proofs.Table.{lead}
 
 -- the least code with n tails: the table of section 3
@@ -65,20 +65,38 @@ scalar c t = go (ltb c 0xD800) refl t
     go false e t = inr (from 0xE000 0x10FFFF c t, to 0xE000 0x10FFFF c t)
 
 -- c is the code of a character with n tails
-pub record Tailed (n c : ℕ) : Type 0 where
-  pub low : least n ≤ c
-  pub high : c < least (suc n)
-  pub fair : T (isScalar c)
+abbrev pub hasTails : ℕ → ℕ → Bool
+hasTails n c = leb (least n) c && (ltb c (least (suc n)) && isScalar c)
+
+abbrev pub Tailed : ℕ → ℕ → Type 0
+Tailed n c = T (hasTails n c)
+
+module _ (n c : ℕ) where
+  pub tailed : least n ≤ c → c < least (suc n) → T (isScalar c) → Tailed n c
+  tailed h k t = rw (le-leb (least n) c h, lt-ltb c (least (suc n)) k) t
+
+  module _ (t : Tailed n c) where
+    pub low : least n ≤ c
+    low = leb→le (least n) c (and-left (leb (least n) c) (ltb c (least (suc n)) && isScalar c) t)
+
+    few : T (ltb c (least (suc n)) && isScalar c)
+    few = and-right (leb (least n) c) (ltb c (least (suc n)) && isScalar c) t
+
+    pub high : c < least (suc n)
+    high = ltb→lt c (least (suc n)) (and-left (ltb c (least (suc n))) (isScalar c) few)
+
+    pub fair : T (isScalar c)
+    fair = and-right (ltb c (least (suc n))) (isScalar c) few
 
 -- each has some
 pub counted : (c : ℕ) → T (isScalar c) → (n : ℕ) × (n ≤ 3) × Tailed n c
 counted c t = elim (decLe 0x80 c) [
-  | no h ↦ (0, omega arith, record { low = omega arith; high = lt-of-not-le h; fair = t })
+  | no h ↦ (0, omega arith, tailed 0 c (omega arith) (lt-of-not-le h) t)
   | yes h ↦ elim (decLe 0x800 c) [
-    | no k ↦ (1, omega arith, record { low = h; high = lt-of-not-le k; fair = t })
+    | no k ↦ (1, omega arith, tailed 1 c h (lt-of-not-le k) t)
     | yes k ↦ elim (decLe 0x10000 c) [
-      | no l ↦ (2, omega arith, record { low = k; high = lt-of-not-le l; fair = t })
-      | yes l ↦ (3, omega arith, record { low = l; high = ⊎-elim (λ x. omega arith) (λ x. omega arith) (scalar c t); fair = t })
+      | no l ↦ (2, omega arith, tailed 2 c k (lt-of-not-le l) t)
+      | yes l ↦ (3, omega arith, tailed 3 c l (⊎-elim (λ x. omega arith) (λ x. omega arith) (scalar c t)) t)
     ]
   ]
 ]
@@ -87,18 +105,18 @@ counted c t = elim (decLe 0x80 c) [
 pub same-head : (n x y : ℕ) → n < 3 → above n x ≡ above n y → Tailed (suc n) x → Tailed (suc n) y
 same-head zero x y l e t = rw (← e) t
 same-head (suc zero) x y l e t =
-    let h = t .low in
-    let k = t .high in
-    record { low = omega arith; high = omega arith; fair = ⊎-elim (λ s. low-scalar y (omega arith)) (λ s. high-scalar y (omega arith) (omega arith)) (scalar x (t .fair)) }
+    let h = low 2 x t in
+    let k = high 2 x t in
+    tailed 2 y (omega arith) (omega arith) (⊎-elim (λ s. low-scalar y (omega arith)) (λ s. high-scalar y (omega arith) (omega arith)) (scalar x (fair 2 x t)))
 same-head (suc (suc zero)) x y l e t =
-    let h = t .low in
-    let k = t .high in
-    record { low = omega arith; high = omega arith; fair = ⊎-elim (λ s. low-scalar y (omega arith)) (λ s. high-scalar y (omega arith) (omega arith)) (scalar x (t .fair)) }
+    let h = low 3 x t in
+    let k = high 3 x t in
+    tailed 3 y (omega arith) (omega arith) (high-scalar y (omega arith) (omega arith))
 same-head (suc (suc (suc n))) x y l e t = absurd (omega arith)
 
 -- and their heads are few
 pub head-low : (n c : ℕ) → n < 3 → Tailed (suc n) c → above n c < 0x800
-head-low zero c l t = t .high
-head-low (suc zero) c l t = let k = t .high in omega arith
-head-low (suc (suc zero)) c l t = let k = t .high in omega arith
+head-low zero c l t = high 1 c t
+head-low (suc zero) c l t = omega (arith, high 2 c t)
+head-low (suc (suc zero)) c l t = omega (arith, high 3 c t)
 head-low (suc (suc (suc n))) c l t = absurd (omega arith)
