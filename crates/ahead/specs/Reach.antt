@@ -3,9 +3,10 @@ use mathlib.Core.Path.{_≡_}
 use mathlib.Core.Bool.{Bool, not}
 use mathlib.Core.List.{List, _++_}
 use mathlib.Core.Option.{none}
-use Prim.Native.Nat.{ℕ, _/_}
+use Prim.Native.Nat.{ℕ}
 use lib.ListN.{length}
 use Rattle.lent.specs.Bytes.{if_then_else_}
+use Rattle.event.specs.Event.{countOf}
 use Rattle.machine.specs.State.{State}
 use Rattle.machine.specs.Turn.{Turn}
 use Rattle.machine.specs.Totals.{over}
@@ -18,7 +19,7 @@ use Rattle.event.specs.declared.Event.{Event}
 
 -- the run over turns, from a state
 abbrev pub run : (events : List ℕ) → (room : ℕ) → List Turn → State → Answer
-run events room ts s = runFrom (length events / 20) (over room) ts s
+run events room ts s = runFrom (countOf events) (over room) ts s
 
 -- the code's state stands for the machine's, and there is room
 pub record Stands (text : List ℕ) (room : ℕ) (b : Whole) (w : World) (s : State) : Type 0 where

@@ -2,14 +2,14 @@
 use mathlib.Core.Path.{_≡_}
 use mathlib.Core.Bool.{Bool, true, false}
 use mathlib.Core.List.{List}
-use Prim.Native.Nat.{ℕ, _/_, _≤_, _<_}
+use Prim.Native.Nat.{ℕ, _≤_, _<_}
 use lib.ListN.{length}
 use Rattle.machine.specs.declared.Options.{Options}
 use Rattle.whole.specs.declared.Whole.{Whole}
 use Rattle.whole.specs.Whole.{World}
 use Rattle.turns.specs.Passing.{turnsLeft}
 use Rattle.event.specs.declared.Event.{Event}
-use Rattle.event.specs.Event.{eventAt}
+use Rattle.event.specs.Event.{countOf, eventAt}
 use Rattle.machine.specs.Command.{nothing}
 use Rattle.turns.specs.Turns.{commandFor}
 use Rattle.ahead.specs.declared.Place.{Place}
@@ -33,4 +33,4 @@ pub record Walks (first : Bool) (events : List ℕ) (inside : Bool) (i : ℕ) (i
 -- and something is at r, where there is an event
 pub record Ahead (first : Bool) (events : List ℕ) (p r : Place) : Type 0 where
   pub walks : Walks first events (p .inside) (p .at) (r .inside) (r .at)
-  pub here : r .at < length events / 20 → wanted first (r .inside) (eventAt events (r .at)) ≡ true
+  pub here : r .at < countOf events → wanted first (r .inside) (eventAt events (r .at)) ≡ true

@@ -1,9 +1,8 @@
 // Where a pass goes next: the first event from a place on at which something is to be done.
-ghost use Prim.Native.Nat.{_/_, _<_};
+ghost use Prim.Native.Nat.{_<_};
 ghost use mathlib.Core.Bool.{true, false};
 ghost use mathlib.Core.Path.{_≡_};
-ghost use lib.ListN.{length};
-ghost use Rattle.event.specs.Event.{eventAt};
+ghost use Rattle.event.specs.Event.{countOf, eventAt};
 ghost use Rattle.turns.specs.Passing.{isHere, staysInside};
 ghost use Rattle.ahead.specs.Reach.{wanted};
 ghost use Rattle.ahead.specs.Walks.{Leaves, Walks, Ahead};
@@ -18,7 +17,7 @@ pub struct Place {
 
 // Whether the event at an index is in a definition, whose enter and exit are.
 fn is_here(inside: bool, events: &[u8], i: EventIndex) -> bool
-    requires { ⌜ i .0 < length (now events) / 20 ⌝ }
+    requires { ⌜ i .0 < countOf (now events) ⌝ }
     ensures { λ r. ⌜ r ≡ isHere inside (eventAt (now (events .entry)) (i .0)) ⌝ }
 {
     if inside {
@@ -32,7 +31,7 @@ fn is_here(inside: bool, events: &[u8], i: EventIndex) -> bool
 
 // Whether the next one is.
 pub fn stays_inside(inside: bool, events: &[u8], i: EventIndex) -> bool
-    requires { ⌜ i .0 < length (now events) / 20 ⌝ }
+    requires { ⌜ i .0 < countOf (now events) ⌝ }
     ensures { λ r. ⌜ r ≡ staysInside inside (eventAt (now (events .entry)) (i .0)) ⌝ }
 {
     if is_here(inside, events, i) {
@@ -46,7 +45,7 @@ pub fn stays_inside(inside: bool, events: &[u8], i: EventIndex) -> bool
 
 // Whether the event is the pass's.
 fn is_wanted(definitions: bool, inside: bool, events: &[u8], i: EventIndex) -> bool
-    requires { ⌜ i .0 < length (now events) / 20 ⌝ }
+    requires { ⌜ i .0 < countOf (now events) ⌝ }
     ensures { λ r. ⌜ r ≡ wanted definitions inside (eventAt (now (events .entry)) (i .0)) ⌝ }
 {
     if definitions {
@@ -57,7 +56,7 @@ fn is_wanted(definitions: bool, inside: bool, events: &[u8], i: EventIndex) -> b
 
 // Whether nothing is to be done at the event: it is not the pass's, or it has no handler.
 fn is_left(first: bool, inside: bool, events: &[u8], i: EventIndex) -> bool
-    requires { ⌜ i .0 < length (now events) / 20 ⌝ }
+    requires { ⌜ i .0 < countOf (now events) ⌝ }
     ensures { λ r. ⌜ Leaves first inside (eventAt (now (events .entry)) (i .0)) r ⌝ }
 {
     if is_wanted(first, inside, events, i) {
@@ -68,7 +67,7 @@ fn is_left(first: bool, inside: bool, events: &[u8], i: EventIndex) -> bool
 
 // Whether the event at an index is the enter of a definition. The name comes first: that is seldom one, so the branch is foreseen.
 fn is_definition(events: &[u8], i: EventIndex) -> bool
-    requires { ⌜ i .0 < length (now events) / 20 ⌝ }
+    requires { ⌜ i .0 < countOf (now events) ⌝ }
     ensures { λ r. ⌜ r ≡ isHere false (eventAt (now (events .entry)) (i .0)) ⌝ }
 {
     if event::name_at(events, i) != Event::DEFINITION {

@@ -6,6 +6,7 @@ use Prim.Native.Nat.{ℕ, _*_, _%_, _^_, _≤_, _<_}
 use lib.ListN.{length}
 use Rattle.lent.specs.Bytes.{all}
 use Rattle.block.specs.Block.{isByte}
+pub use Rattle.event.specs.Event.{recordSize}
 
 -- text in bytes, events in records
 abbrev pub mostText : ℕ
@@ -14,10 +15,7 @@ mostText = 64000
 abbrev pub mostEvents : ℕ
 mostEvents = 3200
 
--- the bytes of an event record, and how many records an event block holds
-abbrev pub recordSize : ℕ
-recordSize = 20
-
+-- how many records an event block holds
 abbrev pub recordsPerBlock : ℕ
 recordsPerBlock = 25
 

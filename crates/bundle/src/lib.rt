@@ -11,6 +11,7 @@ ghost use Rattle.bundle.specs.Read.{numberOf, valueOf, eventsOf, edition
 use block::Refusal;
 use block::Verdict;
 use block_run::BLOCK;
+use event::Event;
 
 pub const MOST_TEXT: usize = 64000;
 
@@ -18,13 +19,11 @@ pub const MOST_EVENTS: usize = 3200;
 
 pub const LEAST_ROOM: usize = 64000;
 
-pub const RECORD: usize = 20;
-
 const RECORDS_PER_BLOCK: usize = 25;
 
 pub const TEXT_ROOM: usize = 500;
 
-pub const EVENT_ROOM: usize = RECORDS_PER_BLOCK * RECORD;
+pub const EVENT_ROOM: usize = RECORDS_PER_BLOCK * Event::SIZE;
 
 pub const HEADER_USED: usize = 8;
 
@@ -295,7 +294,7 @@ fn event_length(bundle: &[u8]) -> usize
     requires { ⌜ 512 ≤ length (now bundle) ⌝ }
     ensures { λ r. ⌜ (r ≡ eventLength (now (bundle .entry))) × (r < 1000000000000) ⌝ }
 {
-    RECORD * event_count(bundle)
+    Event::SIZE * event_count(bundle)
 }
 
 fn text_blocks(bundle: &[u8]) -> usize

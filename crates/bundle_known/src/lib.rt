@@ -10,11 +10,12 @@ use block::Verdict;
 use block_run::BLOCK;
 use bundle::EVENT_KIND;
 use bundle::TEXT_KIND;
+use event::Event;
 
 // What a block of either kind can hold.
 const ROOM: usize = bundle::TEXT_ROOM;
 
-const RECORD: u32 = bundle::RECORD as u32;
+const RECORD: u32 = Event::SIZE as u32;
 
 // Whether block 0 has come, what it says (lengths in bytes), and how much of text and events has come. Lengths are 32 bits
 // wide, so that no sum of theirs can overflow, whatever a caller makes of them.

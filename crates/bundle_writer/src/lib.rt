@@ -17,9 +17,9 @@ use bundle::HEADER_KIND;
 use bundle::HEADER_USED;
 use bundle::MOST_EVENTS;
 use bundle::MOST_TEXT;
-use bundle::RECORD;
 use bundle::TEXT_KIND;
 use bundle::TEXT_ROOM;
+use event::Event;
 
 // The bundle's length, or why none was written.
 pub enum Packed {
@@ -77,7 +77,7 @@ fn refuse(out: &mut [u8], p: Packed) -> Packed
 fn has_right_lengths(text: usize, events: usize) -> bool
     ensures { λ r. ⌜ r ≡ rightLengths text events ⌝ }
 {
-    (text <= MOST_TEXT) & (events <= RECORD * MOST_EVENTS) & (events % RECORD == 0)
+    (text <= MOST_TEXT) & (events <= Event::SIZE * MOST_EVENTS) & (events % Event::SIZE == 0)
 }
 
 fn bundle_length(text: usize, events: usize) -> usize
@@ -105,7 +105,7 @@ fn write_header(out: &mut [u8], edition: u32, text: usize, events: usize)
 {
     let mut payload = [0u8; HEADER_USED];
     let half = block_writer::put_little(&mut payload, 0, U32, text);
-    block_writer::put_little(&mut payload, half, U32, events / RECORD);
+    block_writer::put_little(&mut payload, half, U32, events / Event::SIZE);
     block_writer::write_block(out, 0, edition, 0, HEADER_KIND, &payload);
 }
 

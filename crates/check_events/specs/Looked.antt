@@ -2,10 +2,9 @@
 use mathlib.Core.Path.{_≡_}
 use mathlib.Core.Bool.{Bool, false, _&&_}
 use mathlib.Core.List.{List, [], _∷_}
-use Prim.Native.Nat.{ℕ, _/_, _<_}
-use lib.ListN.{length}
+use Prim.Native.Nat.{ℕ, _<_}
 use Rattle.event.specs.declared.Event.{Event}
-use Rattle.event.specs.Event.{isEnter, named, eventAt}
+use Rattle.event.specs.Event.{countOf, isEnter, named, eventAt}
 use Rattle.nesting.specs.declared.Nesting.the-variants as N
 use Rattle.nesting.specs.Tag.{tagsOf}
 use Rattle.nesting.specs.Pass.{nestOf}
@@ -22,7 +21,7 @@ abbrev pub isUse : Event → Bool
 isUse e = isEnter e && named (45 ∷ 46 ∷ 62 ∷ []) e
 
 abbrev pub NoUses : (events : List ℕ) → Type 0
-NoUses events = (k : ℕ) → k < length events / 20 → isUse (eventAt events k) ≡ false
+NoUses events = (k : ℕ) → k < countOf events → isUse (eventAt events k) ≡ false
 
 -- the answers of 5 and 6; where `uses` is false there is none
 pub record Passes (text events : List ℕ) (p : Passed) : Type 0 where

@@ -2,9 +2,9 @@
 use mathlib.Core.Path.{_≡_}
 use mathlib.Core.Bool.{Bool, true, false}
 use mathlib.Core.List.{List}
-use Prim.Native.Nat.{ℕ, _/_, _≤_, _<_}
-use lib.ListN.{length, drop}
-use Rattle.event.specs.Event.{eventAt, eventsOf}
+use Prim.Native.Nat.{ℕ, _≤_, _<_}
+use lib.ListN.{drop}
+use Rattle.event.specs.Event.{countOf, eventAt, eventsOf}
 use Rattle.check_labels.specs.declared.Part.the-variants.{Slice, Nothing}
 use Rattle.check_labels.specs.Labels.{labelOf, identities}
 
@@ -28,7 +28,7 @@ pub record Passed (events : List ℕ) (n from r : ℕ) : Type 0 where
 
 -- the one at i is, if there is one
 pub record Found (events : List ℕ) (n i : ℕ) : Type 0 where
-  pub found : i < length events / 20 → Labelled events n i
+  pub found : i < countOf events → Labelled events n i
 
 pub record NextLabel (events : List ℕ) (n from r : ℕ) : Type 0 where
   pub passed : Passed events n from r

@@ -2,10 +2,10 @@
 ghost use mathlib.Core.Path.{_≡_};
 ghost use mathlib.Core.Bool.{_&&_};
 ghost use mathlib.Core.List.{[], _∷_};
-ghost use Prim.Native.Nat.{_+_, _/_, _<_, _≤_};
-ghost use lib.ListN.{length, drop};
+ghost use Prim.Native.Nat.{_+_, _<_, _≤_};
+ghost use lib.ListN.{drop};
 ghost use Rattle.lent.specs.Bytes.{listed, oneOf};
-ghost use Rattle.event.specs.Event.{eventsOf, eventAt};
+ghost use Rattle.event.specs.Event.{countOf, eventsOf, eventAt};
 ghost use Rattle.normalize_identifier.specs.Identity.{identityOf};
 ghost use Rattle.check_labels.specs.Labels.{turnOf, ownPart, soughtOf, identities, isDefined, labelHolds, undefinedOf};
 ghost use Rattle.check_labels.specs.Signature.{Signed, Signs, Puts, Skips};
@@ -35,7 +35,7 @@ pub enum Turn {
 
 // Whether the event at an index is the exit of an n.
 fn is_label(events: &[u8], n: u8, i: usize) -> bool
-    requires { ⌜ i < length (now events) / 20 ⌝ }
+    requires { ⌜ i < countOf (now events) ⌝ }
     ensures { λ r. ⌜ IsLabel (now (events .entry)) n i r ⌝ }
 {
     let name = event::name_at(events, EventIndex(i));
@@ -63,7 +63,7 @@ fn next_label(events: &[u8], n: u8, from: usize) -> usize
 
 // Whether the event at an index is known to be no label of a definition or of a footnote definition.
 fn is_plain(events: &[u8], i: usize) -> bool
-    requires { ⌜ i < length (now events) / 20 ⌝ }
+    requires { ⌜ i < countOf (now events) ⌝ }
     ensures { λ r. ⌜ IsPlain (now (events .entry)) i r ⌝ }
 {
     let name = event::name_at(events, EventIndex(i));
@@ -78,7 +78,7 @@ fn is_plain(events: &[u8], i: usize) -> bool
 
 // Puts the signature of the slice of the event at an index at the place k, if there is room.
 fn put(text: &[u8], events: &[u8], i: usize, k: usize, signatures: &mut [usize])
-    requires { ⌜ i < length (now events) / 20 ⌝ }
+    requires { ⌜ i < countOf (now events) ⌝ }
     ensures { λ r. ⌜ Puts (now (text .entry)) (eventAt (now (events .entry)) i) k (now (signatures .entry)) (now (signatures .exit)) ⌝ }
 {
     if signatures.len() / 2 <= k {
@@ -94,7 +94,7 @@ fn put(text: &[u8], events: &[u8], i: usize, k: usize, signatures: &mut [usize])
 
 // Signs the event at an index if it is the exit of an n: the k-th. How many there are then.
 fn sign_at(text: &[u8], events: &[u8], n: u8, i: usize, k: usize, signatures: &mut [usize]) -> usize
-    requires { ⌜ (i < length (now events) / 20) × (k ≤ i) ⌝ }
+    requires { ⌜ (i < countOf (now events)) × (k ≤ i) ⌝ }
     ensures { λ r. ⌜ Signs (now (text .entry)) (now (events .entry)) n i k (now (signatures .entry)) r (now (signatures .exit)) ⌝ }
 {
     if is_label(events, n, i) {
@@ -265,7 +265,7 @@ fn is_medium(name: u8) -> bool
 
 // Whether the event at an index is no undefined link, image or call.
 fn holds(text: &[u8], events: &[u8], definitions: &[usize], footnotes: &[usize], i: usize) -> bool
-    requires { ⌜ (i < length (now events) / 20) × (Signed (now text) (now events) 54 (now definitions)) × (Signed (now text) (now events) 65 (now footnotes)) ⌝ }
+    requires { ⌜ (i < countOf (now events)) × (Signed (now text) (now events) 54 (now definitions)) × (Signed (now text) (now events) 65 (now footnotes)) ⌝ }
     ensures { λ r. ⌜ r ≡ labelHolds (now (text .entry)) (eventsOf (now (events .entry))) (eventAt (now (events .entry)) i) (drop (i + 1) (eventsOf (now (events .entry)))) ⌝ }
 {
     if event::kind_at(events, EventIndex(i)) != Event::ENTER {
@@ -315,7 +315,7 @@ fn is_other(name: u8) -> bool
 
 // Whether the event at an index is the enter of a link or an image that seeks a label, or of a call.
 fn is_use(events: &[u8], i: usize) -> bool
-    requires { ⌜ i < length (now events) / 20 ⌝ }
+    requires { ⌜ i < countOf (now events) ⌝ }
     ensures { λ r. ⌜ IsUse (now (events .entry)) i r ⌝ }
 {
     let name = event::name_at(events, EventIndex(i));

@@ -2,12 +2,13 @@
 use mathlib.Core.Path.{_≡_}
 use mathlib.Core.Bool.{Bool, not, _&&_}
 use mathlib.Core.List.{List}
-use Prim.Native.Nat.{ℕ, _%_}
+use Prim.Native.Nat.{ℕ, _*_, _%_}
 use lib.Dec.{eqb, leb}
 use lib.ListN.{length}
 use Rattle.lent.specs.Bytes.{if_then_else_}
 use Rattle.utf8.specs.Utf8.{isUtf8}
 use Rattle.event.specs.declared.EventIndex.{EventIndex}
+use Rattle.event.specs.Event.{recordSize}
 use Rattle.nesting.specs.declared.Nesting.{Nesting}
 use Rattle.nesting.specs.declared.Nesting.the-variants as N
 use Rattle.nesting.specs.Tag.{tagsOf}
@@ -89,7 +90,7 @@ fromFields text events = afterFields (fieldsOf text events) (fromNesting text ev
 
 -- text at most 64,000 bytes; events whole records, at most 3,200 of them
 abbrev pub sizesHold : (text events : List ℕ) → Bool
-sizesHold text events = leb (length text) 64000 && leb (length events) 64000 && eqb (length events % 20) 0
+sizesHold text events = leb (length text) 64000 && leb (length events) (recordSize * 3200) && eqb (length events % recordSize) 0
 
 unfoldable pub checkOf : (text events : List ℕ) → Checked
 checkOf text events =

@@ -4,6 +4,7 @@ ghost use Rattle.check_events.specs.Looked.{Passes};
 ghost use Rattle.checker.specs.Checked.{sizesHold, Checks, fromFields, fromSlices, fromCounts, fromLabels, numberOf, placeOf};
 use check_events::Passed;
 use check_slices::Slices;
+use event::Event;
 use event::EventIndex;
 
 // Yes, or why not: 01's refusals 1 to 7, with the event where there is one. Left open at the end, it is the count of events.
@@ -21,8 +22,8 @@ pub enum Checked {
 // The most bytes of text.
 pub const MOST_TEXT: usize = 64000;
 
-// The most bytes of events: 3,200 records of 20.
-pub const MOST_EVENTS: usize = 64000;
+// The most bytes of events: 3,200 records.
+pub const MOST_EVENTS: usize = 3200 * Event::SIZE;
 
 // The whole of 01's rules.
 pub fn check(text: &[u8], events: &[u8]) -> Checked
@@ -73,7 +74,7 @@ pub fn place(c: Checked) -> usize
 fn sizes_hold(text: &[u8], events: &[u8]) -> bool
     ensures { λ r. ⌜ r ≡ sizesHold (now (text .entry)) (now (events .entry)) ⌝ }
 {
-    (text.len() <= MOST_TEXT) & (events.len() <= MOST_EVENTS) & (events.len() % 20 == 0)
+    (text.len() <= MOST_TEXT) & (events.len() <= MOST_EVENTS) & (events.len() % Event::SIZE == 0)
 }
 
 // From 3 on: one walk answers for 3 to 6.

@@ -21,18 +21,29 @@ eventOf r =
       extra = field 12 8 r;
     }
 
+-- the bytes of a record, and how many whole records a buffer has
+abbrev pub recordSize : ℕ
+recordSize = 20
+
+abbrev pub countOf : List ℕ → ℕ
+countOf b = length b / recordSize
+
+-- how many names there are
+abbrev pub nameCount : ℕ
+nameCount = 66
+
 -- the event at an index, counted from 0
 unfoldable pub eventAt : List ℕ → ℕ → Event
-eventAt b i = eventOf (take 20 (drop (20 * i) b))
+eventAt b i = eventOf (take recordSize (drop (recordSize * i) b))
 
 -- the first n records, in order
 unfoldable pub eventsIn : (n : ℕ) → List ℕ → List Event
 eventsIn zero b = []
-eventsIn (suc n) b = eventOf (take 20 b) ∷ eventsIn n (drop 20 b)
+eventsIn (suc n) b = eventOf (take recordSize b) ∷ eventsIn n (drop recordSize b)
 
 -- the whole records of a buffer, in order
 unfoldable pub eventsOf : List ℕ → List Event
-eventsOf b = eventsIn (length b / 20) b
+eventsOf b = eventsIn (countOf b) b
 
 -- an event as its record
 unfoldable pub recordOf : Event → List ℕ

@@ -1,9 +1,9 @@
 // Event records of 20 bytes, little endian: decoded, one field read, and the extra field unpacked.
-ghost use Prim.Native.Nat.{_+_, _*_, _/_, _≤_, _<_};
+ghost use Prim.Native.Nat.{_+_, _*_, _≤_, _<_};
 ghost use mathlib.Core.Path.{_≡_};
 ghost use lib.ListN.{length};
 ghost use Rattle.event.specs.Little.{field};
-ghost use Rattle.event.specs.Event.{eventOf, eventAt, isEnter, isLoose, columnsOf, alignmentOf};
+ghost use Rattle.event.specs.Event.{recordSize, countOf, eventOf, eventAt, isEnter, isLoose, columnsOf, alignmentOf};
 
 // An event's place in the list. It is never added to a byte's place.
 pub struct EventIndex(pub usize);
@@ -183,7 +183,7 @@ impl Event {
 
     // The event that a record's bytes hold.
     pub fn decode(bytes: &[u8]) -> Self
-        requires { ⌜ 20 ≤ length (now bytes) ⌝ }
+        requires { ⌜ recordSize ≤ length (now bytes) ⌝ }
         ensures { λ r. ⌜ r ≡ eventOf (now (bytes .entry)) ⌝ }
     {
         let from = u32_at(bytes, Event::FROM_AT);
@@ -202,7 +202,7 @@ impl Event {
 
     // The event at an index.
     pub fn read(events: &[u8], i: EventIndex) -> Self
-        requires { ⌜ i .0 < length (now events) / 20 ⌝ }
+        requires { ⌜ i .0 < countOf (now events) ⌝ }
         ensures { λ r. ⌜ r ≡ eventAt (now (events .entry)) (i .0) ⌝ }
     {
         let at = Event::SIZE * i.0;
@@ -243,14 +243,14 @@ impl Event {
 
 // How many whole records there are.
 pub fn count(events: &[u8]) -> usize
-    ensures { λ r. ⌜ r ≡ length (now (events .entry)) / 20 ⌝ }
+    ensures { λ r. ⌜ r ≡ countOf (now (events .entry)) ⌝ }
 {
     events.len() / Event::SIZE
 }
 
 // The kind of the event at an index.
 pub fn kind_at(events: &[u8], i: EventIndex) -> u8
-    requires { ⌜ i .0 < length (now events) / 20 ⌝ }
+    requires { ⌜ i .0 < countOf (now events) ⌝ }
     ensures { λ r. ⌜ r ≡ eventAt (now (events .entry)) (i .0) .kind ⌝ }
 {
     events[Event::SIZE * i.0 + Event::KIND_AT]
@@ -258,7 +258,7 @@ pub fn kind_at(events: &[u8], i: EventIndex) -> u8
 
 // The name of the event at an index.
 pub fn name_at(events: &[u8], i: EventIndex) -> u8
-    requires { ⌜ i .0 < length (now events) / 20 ⌝ }
+    requires { ⌜ i .0 < countOf (now events) ⌝ }
     ensures { λ r. ⌜ r ≡ eventAt (now (events .entry)) (i .0) .name ⌝ }
 {
     events[Event::SIZE * i.0 + Event::NAME_AT]

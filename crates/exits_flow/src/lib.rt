@@ -1,7 +1,7 @@
 // An exit goes to its handler by its name, but for what stands in a line, where that leaves media, labels, the setext text and what is kept alone; elsewhere the state is left as it is.
 ghost use mathlib.Core.Bool.{false};
-ghost use Prim.Native.Nat.{_/_, _<_};
-ghost use lib.ListN.{length};
+ghost use Prim.Native.Nat.{_<_};
+ghost use Rattle.event.specs.Event.{countOf};
 ghost use Rattle.machine.specs.OnFlow.{onExitRawFlow};
 ghost use Rattle.machine.specs.OnList.{onExitListItem};
 ghost use Rattle.machine.specs.OnFootnote.{onExitGfmFootnoteDefinitionPrefix};
@@ -28,7 +28,7 @@ fn exit_list_item(
     captures: &mut [u8],
     out: &mut [u8],
 ) -> Context
-    requires { ⌜ i .0 < length (now events) / 20 ⌝ }
+    requires { ⌜ i .0 < countOf (now events) ⌝ }
     ensures { λ r. ⌜ Keeps (After (now (events .entry)) (i .0)) onExitListItem c (now (captures .entry)) (now (out .entry)) r (now (captures .exit)) (now (out .exit)) ⌝ }
 {
     let behind = look_back::look_back(events, i);
@@ -42,7 +42,7 @@ fn exit_raw_flow(
     captures: &mut [u8],
     out: &mut [u8],
 ) -> Context
-    requires { ⌜ i .0 < length (now events) / 20 ⌝ }
+    requires { ⌜ i .0 < countOf (now events) ⌝ }
     ensures { λ r. ⌜ Keeps (After (now (events .entry)) (i .0)) onExitRawFlow c (now (captures .entry)) (now (out .entry)) r (now (captures .exit)) (now (out .exit)) ⌝ }
 {
     let fence = look_back::fence_before(events, i);
@@ -87,7 +87,7 @@ fn exit_content(
     starts: &[usize],
     out: &mut [u8],
 ) -> Context
-    requires { ⌜ i .0 < length (now events) / 20 ⌝ }
+    requires { ⌜ i .0 < countOf (now events) ⌝ }
     ensures { λ r. ⌜ Among false 23 32 (Here (now (text .entry)) (now (events .entry)) (i .0) e) e c (now (captures .entry)) (now (starts .entry)) (now (out .entry)) r (now (captures .exit)) (now (starts .entry)) (now (out .exit)) ⌝ }
 {
     let name = e.name;
@@ -140,7 +140,7 @@ pub fn on_exit(
     starts: &mut [usize],
     out: &mut [u8],
 ) -> Context
-    requires { ⌜ i .0 < length (now events) / 20 ⌝ }
+    requires { ⌜ i .0 < countOf (now events) ⌝ }
     ensures { λ r. ⌜ Exits (now (text .entry)) (now (events .entry)) (i .0) e c (now (captures .entry)) (now (starts .entry)) (now (out .entry)) r (now (captures .exit)) (now (starts .exit)) (now (out .exit)) ⌝ }
 {
     if e.name < Event::LIST_ITEM {

@@ -1,8 +1,8 @@
 // An exit of what stands in a line goes to its handler by its name; where it has none the state is left as it is.
 ghost use mathlib.Core.Bool.{false};
 ghost use mathlib.Core.Path.{_≡_};
-ghost use Prim.Native.Nat.{_/_, _<_};
-ghost use lib.ListN.{length};
+ghost use Prim.Native.Nat.{_<_};
+ghost use Rattle.event.specs.Event.{countOf};
 ghost use Rattle.machine.specs.OnText.{onExitLineEnding, onExitBlankLineEnding};
 ghost use Rattle.context.specs.Rel.{Keeps};
 ghost use Rattle.on_inline.specs.View.{SeesWith};
@@ -31,7 +31,7 @@ fn exit_line_ending(
     captures: &mut [u8],
     out: &mut [u8],
 ) -> Context
-    requires { ⌜ i .0 < length (now events) / 20 ⌝ }
+    requires { ⌜ i .0 < countOf (now events) ⌝ }
     ensures { λ r. ⌜ Keeps (Here (now (text .entry)) (now (events .entry)) (i .0) e) onExitLineEnding c (now (captures .entry)) (now (out .entry)) r (now (captures .exit)) (now (out .exit)) ⌝ }
 {
     let behind = look_back::behind_definition(events, i);
@@ -45,7 +45,7 @@ fn exit_blank_line_ending(
     captures: &mut [u8],
     out: &mut [u8],
 ) -> Context
-    requires { ⌜ i .0 < length (now events) / 20 ⌝ }
+    requires { ⌜ i .0 < countOf (now events) ⌝ }
     ensures { λ r. ⌜ Keeps (At (now (events .entry)) (i .0)) onExitBlankLineEnding c (now (captures .entry)) (now (out .entry)) r (now (captures .exit)) (now (out .exit)) ⌝ }
 {
     let last = i.0 + 1 == event::count(events);
@@ -63,7 +63,7 @@ fn exit_data(
     starts: &[usize],
     out: &mut [u8],
 ) -> Context
-    requires { ⌜ i .0 < length (now events) / 20 ⌝ }
+    requires { ⌜ i .0 < countOf (now events) ⌝ }
     ensures { λ r. ⌜ Among false 0 11 (Here (now (text .entry)) (now (events .entry)) (i .0) e) e c (now (captures .entry)) (now (starts .entry)) (now (out .entry)) r (now (captures .exit)) (now (starts .entry)) (now (out .exit)) ⌝ }
 {
     let name = e.name;
@@ -130,7 +130,7 @@ pub fn on_exit(
     starts: &[usize],
     out: &mut [u8],
 ) -> Context
-    requires { ⌜ i .0 < length (now events) / 20 ⌝ }
+    requires { ⌜ i .0 < countOf (now events) ⌝ }
     ensures { λ r. ⌜ Exits (now (text .entry)) (now (events .entry)) options (i .0) e c (now (captures .entry)) (now (starts .entry)) (now (out .entry)) r (now (captures .exit)) (now (starts .entry)) (now (out .exit)) ⌝ }
 {
     if e.name < Event::PARAGRAPH {

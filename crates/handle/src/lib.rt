@@ -1,9 +1,8 @@
 // The event at an index goes to its handler: by whether that concerns the context alone, by enter or exit, and by its name. Enters of the context alone go to `enters`.
-ghost use Prim.Native.Nat.{_/_, _<_};
+ghost use Prim.Native.Nat.{_<_};
 ghost use mathlib.Core.Bool.{false, not};
 ghost use mathlib.Core.Path.{_≡_};
-ghost use lib.ListN.{length};
-ghost use Rattle.event.specs.Event.{isEnter};
+ghost use Rattle.event.specs.Event.{countOf, isEnter};
 ghost use Rattle.kept.specs.Kept.{tables};
 ghost use Rattle.whole.specs.Quiet.{isQuiet};
 ghost use Rattle.turns.specs.Turns.{commandFor};
@@ -37,7 +36,7 @@ pub fn handle_exit(
     starts: &mut [usize],
     out: &mut [u8],
 ) -> Context
-    requires { ⌜ (i .0 < length (now events) / 20) × (isEnter e ≡ false) ⌝ }
+    requires { ⌜ (i .0 < countOf (now events)) × (isEnter e ≡ false) ⌝ }
     ensures { λ r. ⌜ Quietly (now (text .entry)) (now (events .entry)) options (i .0) e c (now (captures .entry)) (now (starts .entry)) (now (out .entry)) r (now (captures .exit)) (now (starts .exit)) (now (out .exit)) ⌝ }
 {
     if exits_text::is_text(e.name) {

@@ -1,9 +1,9 @@
 // What stands before an event: the look back before </li>, and two that look at one event.
-ghost use Prim.Native.Nat.{_/_, _≤_, _<_};
+ghost use Prim.Native.Nat.{_≤_, _<_};
 ghost use mathlib.Core.Path.{_≡_};
 ghost use mathlib.Core.List.{[], _∷_};
-ghost use lib.ListN.{length};
 ghost use Rattle.lent.specs.Bytes.{oneOf};
+ghost use Rattle.event.specs.Event.{countOf};
 ghost use Rattle.machine.specs.Turn.{endsAt, skipping, lookBack, isAfterDefinition};
 ghost use Rattle.look_back.specs.Behind.{eventsBefore, nameOf, isAfterFence};
 use event::Event;
@@ -51,7 +51,7 @@ fn skip(exit: bool, depth: usize) -> usize
 
 // The name of the newest event before i that is in no element to skip, 0 if there is none.
 pub fn look_back(events: &[u8], i: EventIndex) -> u8
-    requires { ⌜ i .0 ≤ length (now events) / 20 ⌝ }
+    requires { ⌜ i .0 ≤ countOf (now events) ⌝ }
     ensures { λ r. ⌜ r ≡ nameOf (lookBack 0 (eventsBefore (now (events .entry)) (i .0))) ⌝ }
 {
     let mut k = i.0;
@@ -69,7 +69,7 @@ pub fn look_back(events: &[u8], i: EventIndex) -> u8
 
 // Whether a fence ends just before i.
 pub fn fence_before(events: &[u8], i: EventIndex) -> bool
-    requires { ⌜ i .0 ≤ length (now events) / 20 ⌝ }
+    requires { ⌜ i .0 ≤ countOf (now events) ⌝ }
     ensures { λ r. ⌜ r ≡ isAfterFence (eventsBefore (now (events .entry)) (i .0)) ⌝ }
 {
     if i.0 == 0 {
@@ -80,7 +80,7 @@ pub fn fence_before(events: &[u8], i: EventIndex) -> bool
 
 // Whether a definition or footnote definition ends just before the enter of the event's own element.
 pub fn behind_definition(events: &[u8], i: EventIndex) -> bool
-    requires { ⌜ i .0 ≤ length (now events) / 20 ⌝ }
+    requires { ⌜ i .0 ≤ countOf (now events) ⌝ }
     ensures { λ r. ⌜ r ≡ isAfterDefinition (eventsBefore (now (events .entry)) (i .0)) ⌝ }
 {
     if i.0 < 2 {

@@ -7,13 +7,13 @@ use Prim.Native.Nat.{ℕ, _+_, _*_, _≤_, _<_}
 use native.Mathlib.Omega.{arith}
 use lib.ListN.{getD}
 use borrow.Author.Tests.{eq-eqb, ne-eqb, le-leb, lt-leb}
+use Rattle.event.specs.Event.{nameCount}
 use Rattle.nesting.specs.declared.Entry.{Entry}
 use Rattle.nesting.specs.declared.Entry.the-variants.{Refused, Into}
 use Rattle.nesting.specs.declared.Exit.the-variants.{Stays, To}
 use Rattle.nesting.specs.Pass.{Rest, Turn, refused, entered, turn, mayEnd, Open, leave}
 use Rattle.nesting.specs.Tables.{state, flag, placeOf, looked, Enters, Leaves, States, Tables}
 use Rattle.nesting.proofs.Step.{no-turn}
-use Rattle.nesting.specs.Grammar.{nameCount}
 
 -- ---- an element
 

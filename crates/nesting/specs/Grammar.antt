@@ -3,6 +3,7 @@ use mathlib.Core.List.{List, [], _∷_}
 use Prim.Native.Nat.{ℕ, _+_, _-_}
 use lib.Dec.{ltb}
 use lib.ListN.{getD}
+pub use Rattle.event.specs.Event.{nameCount}
 use Rattle.lent.specs.Bytes.{if_then_else_, oneOf}
 
 -- one of these kinds; [one of them]; any number of them; and chain (9 ∷ 10 ∷ []) is [9 [10]]
@@ -22,10 +23,6 @@ inline = 5 ∷ 6 ∷ 7 ∷ 33 ∷ 37 ∷ 39 ∷ 40 ∷ 41 ∷ 42 ∷ 43 ∷ 44 �
 
 abbrev pub plain : List ℕ
 plain = 5 ∷ 6 ∷ 7 ∷ []
-
--- names are 0 to 65
-abbrev pub nameCount : ℕ
-nameCount = 66
 
 -- A kind is a name, or one of four behind the names, which name the same element in another place: an item of an unordered list,
 abbrev pub bulletItem : ℕ

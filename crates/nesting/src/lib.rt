@@ -2,10 +2,11 @@
 ghost use mathlib.Core.Path.{_≡_};
 ghost use Prim.Native.Nat.{_-_, _≤_, _<_};
 ghost use lib.ListN.{length, getD};
-ghost use Rattle.nesting.specs.Grammar.{nameCount};
+ghost use Rattle.event.specs.Event.{nameCount};
 ghost use Rattle.nesting.specs.Pass.{turn, leave};
 ghost use Rattle.nesting.specs.Tables.{States, Tables, state, placeOf, Enters, Leaves};
 ghost use Rattle.nesting.specs.Moved.{Opens, Closes, Advances};
+use event::Event;
 
 // What 4 says of a list: yes, or the place.
 pub enum Nesting {
@@ -60,9 +61,6 @@ const ENTRIES: [u8; 315] = *b"\
     \xff\x00\x00\xff\x00\x00\xff\x00\x00\xff\x00\x00\xff\x00\x00\xff\x00\x00\xff\x00\x00\
 ";
 
-// Names are 0 to 65.
-const NAMES: u8 = 66;
-
 // Both tables, to be lent: a `const` would be built anew at each use.
 pub struct Lookup {
     pub states: [u8; 96],
@@ -84,16 +82,16 @@ fn enter(states: &[u8], entries: &[u8], here: u8, name: u8) -> Entry
     requires { ⌜ here < 48 ⌝ }
     ensures { λ r. ⌜ Enters (turn (state here) name) r ⌝ }
 {
-    if name <= 4 {
+    if name <= Event::BLANK_LINE_ENDING {
         if here == 0 {
             return Entry::Refused;
         }
-        if name <= 2 {
+        if name <= Event::BLOCK_QUOTE_PREFIX {
             return Entry::Into(here, here);
         }
         return Entry::Into(0, here);
     }
-    if NAMES <= name {
+    if Event::NAMES <= name {
         return Entry::Refused;
     }
     let at = entry_place(states, here, name);
@@ -122,7 +120,7 @@ fn leave(states: &[u8], here: u8, name: u8, opened: u8, behind: u8) -> Exit
     if opened != name {
         return Exit::Stays;
     }
-    if name <= 2 {
+    if name <= Event::BLOCK_QUOTE_PREFIX {
         return Exit::To(here);
     }
     if states[(here as usize) * 2 + 1] == 0 {

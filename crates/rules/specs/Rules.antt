@@ -2,13 +2,13 @@
 use mathlib.Core.Path.{_≡_}
 use mathlib.Core.Bool.{Bool, true, false, _||_}
 use mathlib.Core.List.{List, [], _∷_, _++_}
-use Prim.Native.Nat.{ℕ, _+_, _/_, _%_, _≤_, _<_}
+use Prim.Native.Nat.{ℕ, _+_, _%_, _≤_, _<_}
 use lib.Dec.{eqb}
 use lib.ListN.{length, take}
 use Rattle.lent.specs.Bytes.{if_then_else_}
 use Rattle.utf8.specs.Utf8.{Characters}
 use Rattle.event.specs.declared.Event.{Event}
-use Rattle.event.specs.Event.{isEnter, named, eventAt, eventsOf}
+use Rattle.event.specs.Event.{recordSize, countOf, isEnter, named, eventAt, eventsOf}
 use Rattle.character_reference.specs.declared.Marker.{Marker}
 use Rattle.character_reference.specs.declared.Marker.the-variants.{Named, Decimal, Hexadecimal}
 use Rattle.character_reference.specs.Reference.{referenceOf, isSome}
@@ -25,8 +25,8 @@ use Rattle.checker.specs.Checked.{event}
 -- 1: text at most 64,000 bytes; events whole records, at most 3,200 of them
 pub record SizesMeet (text events : List ℕ) : Type 0 where
   pub short : length text ≤ 64000
-  pub whole : length events % 20 ≡ 0
-  pub most : length events / 20 ≤ 3200
+  pub whole : length events % recordSize ≡ 0
+  pub most : countOf events ≤ 3200
 
 -- ---- 5: slices, by what stands before an event
 
@@ -100,7 +100,7 @@ LabelAt text events k = (inside : Forest) → ElementAt (eventsOf events) k (eve
 
 -- every event meets a rule
 abbrev pub Each : List ℕ → (ℕ → Type 0) → Type 0
-Each events Rule = (k : ℕ) → k < length events / 20 → Rule k
+Each events Rule = (k : ℕ) → k < countOf events → Rule k
 
 pub record Meets (text events : List ℕ) : Type 0 where
   pub sizes : SizesMeet text events  -- 1
@@ -113,7 +113,7 @@ pub record Meets (text events : List ℕ) : Type 0 where
 
 -- the first event that breaks a rule
 pub record Earliest (events : List ℕ) (Rule : ℕ → Type 0) (i : ℕ) : Type 0 where
-  pub within : i < length events / 20
+  pub within : i < countOf events
   pub breaks : Rule i → ⊥
   pub before : (k : ℕ) → k < i → Rule k
 

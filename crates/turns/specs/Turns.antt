@@ -2,11 +2,11 @@
 use mathlib.Core.Path.{_≡_}
 use mathlib.Core.Bool.{Bool, true}
 use mathlib.Core.List.{List}
-use Prim.Native.Nat.{ℕ, suc, _/_, _≤_}
+use Prim.Native.Nat.{ℕ, suc, _≤_}
 use lib.Dec.{eqb}
 use lib.ListN.{length, getD}
 use Rattle.event.specs.declared.Event.{Event}
-use Rattle.event.specs.Event.{isEnter, eventAt}
+use Rattle.event.specs.Event.{countOf, isEnter, eventAt}
 use Rattle.machine.specs.declared.Options.{Options}
 use Rattle.machine.specs.State.{State}
 use Rattle.machine.specs.Outcome.{go}
@@ -24,7 +24,7 @@ pub record TurnAt (text events : List ℕ) (o : Options) (i : ℕ) (t : Turn) : 
   pub options-are : t .options ≡ o
   pub event-is : t .event ≡ eventAt events i
   pub before-is : t .before ≡ eventsBefore events i
-  pub last-is : t .last ≡ eqb (suc i) (length events / 20)
+  pub last-is : t .last ≡ eqb (suc i) (countOf events)
 
 -- the command of an event: that of its turn
 unfoldable pub commandFor : Event → Command
