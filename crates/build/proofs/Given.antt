@@ -61,4 +61,4 @@ pub given : (text events : List ℕ) (o : Options) (room : ℕ) → checkOf text
 unfolding runOf runWith
 given text events o room y =
     let r = runs text events o y in
-    rw (runWith, r .found) (run-given room (length (eventsOf events)) (r .goes) (r .clean) (r .called))
+    rw (runWith, r .found, r .begun) (run-given room (length (eventsOf events)) (r .goes) (r .clean) (r .called))

@@ -1,26 +1,18 @@
--- 01's worked examples and the entries of its "Proved table" on code text and table cells, by computation. Assumes nothing.
+-- 01's "Proved table" in one statement, and its worked examples, by computation. Assumes nothing.
 use mathlib.Core.Path.{_≡_, refl}
 use mathlib.Core.List.{List, [], _∷_, _++_}
-use mathlib.Core.Option.{none, some}
 use Prim.Native.Nat.{ℕ}
 use Rattle.lent.specs.Bytes.{bytes}
+use Rattle.sanitize_uri.specs.Url.{sanitizeOf}
+use Rattle.sanitize_uri.specs.Protocols.{linkSchemes, sanitizeWithProtocolsOf}
 use Rattle.event.specs.declared.Event.{Event}
 use Rattle.machine.specs.declared.Ending.the-variants.{Lf}
 use Rattle.machine.specs.Outcome.{Outcome, go}
-use Rattle.machine.specs.Text.{codeOf}
 use Rattle.machine.specs.Run.{Answer, page, refused, runOf, machineOf}
 use Rattle.machine.proofs.Running.{running}
 use Rattle.machine.proofs.Answers.{off, enter, exit, enterWith}
 
--- ---- code text
-
-pub code :
-    (codeOf none (bytes " a ") ≡ bytes "a")
-    × (codeOf none (bytes "  ") ≡ bytes "  ")
-    × (codeOf none (bytes "   ") ≡ bytes "   ")
-    × (codeOf (some []) (bytes "a\\|b") ≡ bytes "a|b")
-unfolding running
-code = (refl, refl, refl, refl)
+-- ---- 01's "Proved table"
 
 -- a paragraph of code text, and a table of one cell that holds some: n bytes each
 abbrev codeText : ℕ → List Event
@@ -34,14 +26,23 @@ inCell n =
     enterWith 57 1 ∷ enter 58 ∷ enter 60 ∷ enter 61 ∷ codeText n
     ++ (exit 61 0 n ∷ exit 60 0 n ∷ exit 58 0 n ∷ exit 57 0 n ∷ [])
 
-pub codePages :
-    (machineOf (bytes " a ") (off Lf) (inParagraph 3) ≡ go (bytes "<p><code>a</code></p>"))
+pub table :
+    (sanitizeOf (bytes "%zz") ≡ bytes "%zz")
+    × (sanitizeOf (bytes "%20") ≡ bytes "%20")
+    × (sanitizeOf (bytes "%%20") ≡ bytes "%25%20")
+    × (sanitizeOf (bytes "%2") ≡ bytes "%252")
+    × (sanitizeOf (bytes "") ≡ bytes "")
+    × (sanitizeOf (bytes "a b&c") ≡ bytes "a%20b&amp;c")
+    × (sanitizeWithProtocolsOf linkSchemes (bytes ":x") ≡ bytes "")
+    × (sanitizeWithProtocolsOf linkSchemes (bytes "JAVASCRIPT:x") ≡ bytes "")
+    × (sanitizeWithProtocolsOf linkSchemes (bytes "HTTP:x") ≡ bytes "HTTP:x")
+    × (sanitizeWithProtocolsOf linkSchemes (bytes "a/b:c") ≡ bytes "a/b:c")
+    × (machineOf (bytes " a ") (off Lf) (inParagraph 3) ≡ go (bytes "<p><code>a</code></p>"))
     × (machineOf (bytes "  ") (off Lf) (inParagraph 2) ≡ go (bytes "<p><code>  </code></p>"))
     × (machineOf (bytes "   ") (off Lf) (inParagraph 3) ≡ go (bytes "<p><code>   </code></p>"))
-    × (machineOf (bytes "a\\|b") (off Lf) (inParagraph 4) ≡ go (bytes "<p><code>a\\|b</code></p>"))
     × (machineOf (bytes "a\\|b") (off Lf) (inCell 4) ≡ go (bytes "<table>\n<thead>\n<tr>\n<th><code>a|b</code></th>\n</tr>\n</thead>\n</table>"))
 unfolding running
-codePages = (refl, refl, refl, refl, refl)
+table = (refl, refl, refl, refl, refl, refl, refl, refl, refl, refl, refl, refl, refl, refl)
 
 -- ---- the worked examples
 

@@ -152,3 +152,11 @@ v36 = tt
 v37 : T (stops (off Lf) ("a" ∷ []) (exit 23 0 1 ∷ []))
 unfolding running
 v37 = tt
+
+v38 : T (stops (off Lf) ("a" ∷ []) (enter 12 ∷ enter 45 ∷ enter 47 ∷ exit 47 0 0 ∷ enter 52 ∷ exit 52 0 1 ∷ enter 51 ∷ exit 53 0 0 ∷ []))
+unfolding running
+v38 = tt
+
+v39 : T (stops (off Lf) ("a" ∷ []) (exit 53 0 0 ∷ []))
+unfolding running
+v39 = tt

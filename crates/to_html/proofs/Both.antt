@@ -106,9 +106,10 @@ module _ (text events : List ℕ) (o : Options) (room : ℕ) where
   run-is : (x : Ending) → endingOf (o .ending) text (eventsOf events) ≡ go x → areBegun (eventsOf events) ≡ true → runOf text o room (eventsOf events) ≡ run events room (turnsFrom true text events o) (start (fixedOf o x))
   unfolding runOf runWith
   run-is x p q =
-      rw (p, q)
-      (ap (λ (n : ℕ). runFrom n (over room) (turnsOf text o (eventsOf events)) (start (fixedOf o x))) (length-events events)
-      ∙ ap (λ (ts : List Turn). run events room ts (start (fixedOf o x))) turns-are)
+      ap (λ (e : Outcome Ending). elim e [ stop ↦ stopped 0 | go y ↦ elim (areBegun (eventsOf events)) [ true ↦ runFrom (length (eventsOf events)) (over room) (turnsOf text o (eventsOf events)) (start (fixedOf o y)) | false ↦ stopped 0 ] ]) p
+      ∙ ap (λ (b : Bool). elim b [ true ↦ runFrom (length (eventsOf events)) (over room) (turnsOf text o (eventsOf events)) (start (fixedOf o x)) | false ↦ stopped 0 ]) q
+      ∙ ap (λ (n : ℕ). runFrom n (over room) (turnsOf text o (eventsOf events)) (start (fixedOf o x))) (length-events events)
+      ∙ ap (λ (ts : List Turn). run events room ts (start (fixedOf o x))) turns-are
 
   start-roomy : (x : Fixed) → over room (start x) ≡ none
   unfolding over captured held kept start
