@@ -11,7 +11,7 @@ OPTIONS = {0: 'off', 1: 'html', 2: 'protocol', 4: 'images', 7: 'on'}
 ENDINGS = ['Lf', 'Cr', 'CrLf']
 # definitions of other crates that the machine runs
 LEAVES = ['utf8.Utf8', 'encode.Encode', 'sanitize_uri.Url', 'sanitize_uri.Protocols', 'normalize_identifier.Identity',
-          'normalize_identifier.Search', 'character_reference.Reference', 'event.Event']
+          'normalize_identifier.Search', 'character_reference.Names', 'character_reference.Reference', 'event.Event']
 
 
 def ask(command, lines, options, ending):

@@ -1,5 +1,5 @@
 -- The laws of character references: what the code's cases rest on, and what callers go by. Assumes nothing.
-use mathlib.Core.Path.{_≡_, refl, sym, subst, _∙_}
+use mathlib.Core.Path.{_≡_, refl, sym, ap, subst, _∙_}
 use mathlib.Core.Bool.{Bool, true, false, not, cond, _&&_, _||_}
 use mathlib.Core.List.{List, [], _∷_}
 use mathlib.Core.Option.{some}
@@ -8,23 +8,24 @@ use native.Mathlib.Omega.{arith}
 use borrow.Author.Tests.{lt-ltb, le-ltb, le-leb, ltb-false, leb-false, not-true}
 use lib.Dec.{eqb, leb, ltb, lit≤}
 use lib.ListN.{length}
-use Rattle.lent.specs.Bytes.{if_then_else_, between, same}
+use Rattle.lent.specs.Bytes.{if_then_else_, bytes, between, same}
 use Rattle.lent.specs.Fill.{Filled}
 use Rattle.lent.proofs.Laws.{none, and-left, and-right}
+use Rattle.character_reference.specs.declared.Names.{Names}
+use Rattle.character_reference.specs.declared.Names.the-variants.{Html4, Html5}
 use Rattle.character_reference.specs.declared.Marker.{Marker}
 use Rattle.character_reference.specs.declared.Marker.the-variants.{Named, Decimal, Hexadecimal}
 use Rattle.character_reference.specs.declared.Value.{Value}
 use Rattle.character_reference.specs.declared.Value.the-variants.{Code, Broken}
 use Rattle.utf8.specs.Utf8.{charOf, tail, replacement}
-use Rattle.character_reference.specs.Reference.{isReplaced, codeOf, areDigits, numberOf, numeralOf, names, lookup, namedOf, valueOf, standsFor, referenceOf, isSome, orNothing}
+use Rattle.character_reference.specs.Names.{names}
+use Rattle.character_reference.specs.Reference.{isReplaced, codeOf, areDigits, numberOf, numeralOf, lookup, namesOf, namedOf, valueOf, standsFor, referenceOf, referenceFor, isSome, orNothing}
 use Rattle.put_char.specs.Written.{writtenOf}
+use Rattle.character_reference.proofs.Compared.{same-equal}
+use Rattle.character_reference.proofs.Entries.{either, isShort, Brief, named-short}
 use Rattle.character_reference.proofs.Numbers.{inside}
 
 -- ---- what a value's code can be
-
-either : {A : Type 0} (P : A → Type 0) (t : Bool) {x y : A} → P x → P y → P (cond t x y)
-either P true p q = p
-either P false p q = q
 
 or-right : (a b : Bool) → (a || b) ≡ false → b ≡ false
 or-right true b p = let z : _≡_ {A = ℕ} 0 1 = cc in absurd (omega arith)
@@ -74,59 +75,69 @@ code-kept c = go (isReplaced c) refl
     go true e = rw e replacement-kept
     go false e = rw e e
 
-abbrev areKept : List (List ℕ × ℕ) → Bool
-areKept [] = true
-areKept (entry ∷ entries) = not (isReplaced (entry .1)) && areKept entries
+brief-kept : (v : Value) → Brief v → Kept v
+brief-kept (Code c) b = not-true (isReplaced c) (and-left (not (isReplaced c)) (ltb c 0x10000) b)
+brief-kept Broken b = tt
 
-table-kept : (entries : List (List ℕ × ℕ)) (s : List ℕ) → areKept entries ≡ true → Kept (lookup entries s)
-unfolding lookup
-table-kept [] s p = tt
-table-kept (entry ∷ entries) s p =
-    either Kept (same s (entry .0)) {x = Code (entry .1)} {y = lookup entries s}
-    (not-true (isReplaced (entry .1)) (and-left (not (isReplaced (entry .1))) (areKept entries) p))
-    (table-kept entries s (and-right (not (isReplaced (entry .1))) (areKept entries) p))
-
-names-are-kept : areKept names ≡ true
-unfolding isReplaced
-names-are-kept = refl
-
-value-kept : (marker : Marker) (s : List ℕ) → Kept (valueOf marker s)
-unfolding valueOf namedOf numeralOf
-value-kept Named s = table-kept names s names-are-kept
-value-kept Decimal s = either Kept (areDigits 10 7 s) {x = Code (codeOf (numberOf 10 s))} {y = Broken} (code-kept (numberOf 10 s)) tt
-value-kept Hexadecimal s = either Kept (areDigits 16 6 s) {x = Code (codeOf (numberOf 16 s))} {y = Broken} (code-kept (numberOf 16 s)) tt
+value-kept : (option : Names) (marker : Marker) (s : List ℕ) → Kept (valueOf option marker s)
+unfolding valueOf numeralOf
+value-kept option Named s = brief-kept (namedOf option s) (named-short option s)
+value-kept option Decimal s = either Kept (areDigits 10 7 s) {x = Code (codeOf (numberOf 10 s))} {y = Broken} (code-kept (numberOf 10 s)) tt
+value-kept option Hexadecimal s = either Kept (areDigits 16 6 s) {x = Code (codeOf (numberOf 16 s))} {y = Broken} (code-kept (numberOf 16 s)) tt
 
 -- ---- a value, by its marker
 
-module _ (marker : Marker) (s : List ℕ) (v : Value) where
-  pub by-name : marker ≡ Named → v ≡ namedOf s → v ≡ valueOf marker s
+-- with 4: two names, then the table
+module _ (s : List ℕ) (x : Bool) where
+  pub is-lang : x ≡ same s (bytes "lang") → x ≡ true → Code 0x2329 ≡ namedOf Html4 s
+  unfolding namedOf namesOf lookup
+  is-lang e h = rw (← e, h)
+
+  module _ (e : x ≡ same s (bytes "lang")) (h : x ≡ false) (y : Bool) (f : y ≡ same s (bytes "rang")) where
+    pub is-rang : y ≡ true → Code 0x232A ≡ namedOf Html4 s
+    unfolding namedOf namesOf lookup
+    is-rang k = rw (← e, h, ← f, k)
+
+    pub as-newer : y ≡ false → (v : Value) → v ≡ namedOf Html5 s → v ≡ namedOf Html4 s
+    unfolding namedOf namesOf lookup
+    as-newer k v p = rw (← e, h, ← f, k) p
+
+module _ (option : Names) (s : List ℕ) (v : Value) where
+  pub by-4 : option ≡ Html4 → v ≡ namedOf Html4 s → v ≡ namedOf option s
+  by-4 o e = rw (o, e)
+
+  pub by-5 : option ≡ Html5 → v ≡ namedOf Html5 s → v ≡ namedOf option s
+  by-5 o e = rw (o, e)
+
+module _ (option : Names) (marker : Marker) (s : List ℕ) (v : Value) where
+  pub by-name : marker ≡ Named → v ≡ namedOf option s → v ≡ valueOf option marker s
   unfolding valueOf
   by-name m e = rw (m, e)
 
-  pub by-digits : marker ≡ Decimal → v ≡ numeralOf 10 7 s → v ≡ valueOf marker s
+  pub by-digits : marker ≡ Decimal → v ≡ numeralOf 10 7 s → v ≡ valueOf option marker s
   unfolding valueOf
   by-digits m e = rw (m, e)
 
-  pub by-hexadecimal-digits : marker ≡ Hexadecimal → v ≡ numeralOf 16 6 s → v ≡ valueOf marker s
+  pub by-hexadecimal-digits : marker ≡ Hexadecimal → v ≡ numeralOf 16 6 s → v ≡ valueOf option marker s
   unfolding valueOf
   by-hexadecimal-digits m e = rw (m, e)
 
-  pub is-none : v ≡ valueOf marker s → v ≡ Broken → false ≡ isSome (referenceOf marker s)
-  unfolding referenceOf
+  pub is-none : v ≡ valueOf option marker s → v ≡ Broken → false ≡ isSome (referenceFor option marker s)
+  unfolding referenceFor
   is-none e h = rw (← e, h)
 
-  pub writes-nothing : (d : List ℕ) (at : ℕ) → v ≡ valueOf marker s → v ≡ Broken → Filled d at (orNothing (referenceOf marker s)) d at
-  unfolding referenceOf
+  pub writes-nothing : (d : List ℕ) (at : ℕ) → v ≡ valueOf option marker s → v ≡ Broken → Filled d at (orNothing (referenceFor option marker s)) d at
+  unfolding referenceFor
   writes-nothing d at e h = rw (← e, h) (none d at)
 
-  module _ (c : ℕ) (e : v ≡ valueOf marker s) (h : v ≡ Code c) where
-    pub is-one : true ≡ isSome (referenceOf marker s)
-    unfolding referenceOf
+  module _ (c : ℕ) (e : v ≡ valueOf option marker s) (h : v ≡ Code c) where
+    pub is-one : true ≡ isSome (referenceFor option marker s)
+    unfolding referenceFor
     is-one = rw (← e, h)
 
     -- the code of a value is none of the numbers replaced: it is a character's
     pub is-kept : isReplaced c ≡ false
-    is-kept = subst Kept (sym e ∙ h) (value-kept marker s)
+    is-kept = subst Kept (sym e ∙ h) (value-kept option marker s)
 
     pub in-range : c < 0x110000
     in-range = kept-in-range c is-kept
@@ -135,8 +146,8 @@ module _ (marker : Marker) (s : List ℕ) (v : Value) where
     pub is-scalar : (ltb c 0xD800 || between 0xE000 0x10FFFF c) ≡ true
     is-scalar = kept-scalar c is-kept
 
-    pub writes : (d f : List ℕ) (at r : ℕ) → Filled d at (writtenOf c) f r → Filled d at (orNothing (referenceOf marker s)) f r
-    unfolding referenceOf writtenOf
+    pub writes : (d f : List ℕ) (at r : ℕ) → Filled d at (writtenOf c) f r → Filled d at (orNothing (referenceFor option marker s)) f r
+    unfolding referenceFor writtenOf
     writes d f at r p = rw (← e, h) (rw (lt-ltb c 0x110000 in-range) at p)
 
 -- ---- how long a character is
@@ -153,22 +164,35 @@ short c =
     (either Short (ltb c 0x10000) (record { some-byte = lit≤ tt; few-bytes = lit≤ tt }) (record { some-byte = lit≤ tt; few-bytes = lit≤ tt })))
 
 -- what a reference gives is never empty, and at most four bytes
-pub short-reference : (marker : Marker) (s b : List ℕ) → referenceOf marker s ≡ some b → Short b
-unfolding referenceOf
-short-reference marker s b p = go (valueOf marker s) p
+pub short-reference : (option : Names) (marker : Marker) (s b : List ℕ) → referenceFor option marker s ≡ some b → Short b
+unfolding referenceFor
+short-reference option marker s b p = go (valueOf option marker s) p
   where
     go : (v : Value) → standsFor v ≡ some b → Short b
     go (Code c) q = let e : charOf c ≡ b = cc in rw e at (short c)
     go Broken q = let z : _≡_ {A = ℕ} 0 1 = cc in absurd (omega arith)
 
 -- so a value writes at most four bytes
-pub at-most-four : (marker : Marker) (s : List ℕ) → length (orNothing (referenceOf marker s)) ≤ 4
-unfolding referenceOf
-at-most-four marker s = go (valueOf marker s)
+pub at-most-four : (option : Names) (marker : Marker) (s : List ℕ) → length (orNothing (referenceFor option marker s)) ≤ 4
+unfolding referenceFor
+at-most-four option marker s = go (valueOf option marker s)
   where
     go : (v : Value) → length (orNothing (standsFor v)) ≤ 4
     go (Code c) = short c .few-bytes
     go Broken = lit≤ tt
+
+-- and a name at most three
+three : (c : ℕ) → ltb c 0x10000 ≡ true → length (charOf c) ≤ 3
+unfolding charOf
+three c h = either (λ (b : List ℕ). length b ≤ 3) (ltb c 0x80) (lit≤ tt) (either (λ (b : List ℕ). length b ≤ 3) (ltb c 0x800) (lit≤ tt) (rw h (lit≤ tt)))
+
+pub name-at-most-three : (option : Names) (s : List ℕ) → length (orNothing (referenceFor option Named s)) ≤ 3
+unfolding referenceFor valueOf
+name-at-most-three option s = go (namedOf option s) (named-short option s)
+  where
+    go : (v : Value) → Brief v → length (orNothing (standsFor v)) ≤ 3
+    go (Code c) b = three c (and-right (not (isReplaced c)) (ltb c 0x10000) b)
+    go Broken b = lit≤ tt
 
 -- and a number the character with its code, or U+FFFD
 pub character : (c : ℕ) → charOf (codeOf c) ≡ (if isReplaced c then replacement else charOf c)
@@ -178,3 +202,21 @@ character c = go (isReplaced c)
     go : (t : Bool) → charOf (if t then 0xFFFD else c) ≡ (if t then replacement else charOf c)
     go true = refl
     go false = refl
+
+-- ---- whether a value is one is the same with both options
+
+named-by-both : (s : List ℕ) → isSome (standsFor (namedOf Html4 s)) ≡ isSome (standsFor (namedOf Html5 s))
+unfolding namedOf namesOf lookup names
+named-by-both s = go (same s (bytes "lang")) (same s (bytes "rang")) refl refl
+  where
+    go : (a b : Bool) → same s (bytes "lang") ≡ a → same s (bytes "rang") ≡ b → isSome (standsFor (namedOf Html4 s)) ≡ isSome (standsFor (namedOf Html5 s))
+    go true b e f = rw (same-equal s (bytes "lang") e)
+    go false true e f = rw (same-equal s (bytes "rang") f)
+    go false false e f = ap (λ (v : Value). isSome (standsFor v)) (sym (as-newer s false (sym e) refl false (sym f) refl (namedOf Html5 s) refl))
+
+pub by-both : (option : Names) (marker : Marker) (s : List ℕ) → isSome (referenceFor option marker s) ≡ isSome (referenceOf marker s)
+unfolding referenceFor valueOf
+by-both Html4 Named s = named-by-both s
+by-both Html4 Decimal s = refl
+by-both Html4 Hexadecimal s = refl
+by-both Html5 marker s = refl

@@ -1,3 +1,5 @@
+pub mod Compared
+pub mod Entries
 pub mod Laws
-pub mod Names
 pub mod Numbers
+pub mod Search

@@ -8,8 +8,11 @@ use lib.ListN.{length}
 use Rattle.lent.specs.Bytes.{if_then_else_, bytes, between, same, all}
 use Rattle.character_reference.specs.declared.Marker.{Marker}
 use Rattle.character_reference.specs.declared.Marker.the-variants.{Named, Decimal, Hexadecimal}
+use Rattle.character_reference.specs.declared.Names.{Names}
+use Rattle.character_reference.specs.declared.Names.the-variants.{Html4, Html5}
 use Rattle.character_reference.specs.declared.Value.{Value}
 use Rattle.character_reference.specs.declared.Value.the-variants.{Code, Broken}
+use Rattle.character_reference.specs.Names.{names}
 use Rattle.utf8.specs.Utf8.{charOf}
 unfoldable pub use Rattle.put_char.specs.Written.{writtenOf}
 
@@ -48,33 +51,38 @@ numeralOf base most s = if areDigits base most s then Code (codeOf (numberOf bas
 
 -- ---- names
 
--- each name with its code point, ascending
-abbrev pub names : List (List ℕ × ℕ)
-names = (bytes "amp", 0x26) ∷ (bytes "gt", 0x3E) ∷ (bytes "lt", 0x3C) ∷ (bytes "nbsp", 0xA0) ∷ (bytes "quot", 0x22) ∷ []
-
 -- the first entry of a table that has this name
 unfoldable pub lookup : List (List ℕ × ℕ) → List ℕ → Value
 lookup [] s = Broken
 lookup (entry ∷ entries) s = if same s (entry .0) then Code (entry .1) else lookup entries s
 
-unfoldable pub namedOf : List ℕ → Value
-namedOf s = lookup names s
+-- by the names option: HTML 4.01 has two of them otherwise
+unfoldable pub namesOf : Names → List (List ℕ × ℕ)
+namesOf Html4 = (bytes "lang", 0x2329) ∷ (bytes "rang", 0x232A) ∷ names
+namesOf Html5 = names
+
+unfoldable pub namedOf : Names → List ℕ → Value
+namedOf option s = lookup (namesOf option) s
 
 -- ---- references
 
 -- the code point of a value, by the newest marker before it; Broken where the slice breaks its rule
-unfoldable pub valueOf : Marker → List ℕ → Value
-valueOf Named s = namedOf s
-valueOf Decimal s = numeralOf 10 7 s
-valueOf Hexadecimal s = numeralOf 16 6 s
+unfoldable pub valueOf : Names → Marker → List ℕ → Value
+valueOf option Named s = namedOf option s
+valueOf option Decimal s = numeralOf 10 7 s
+valueOf option Hexadecimal s = numeralOf 16 6 s
 
 abbrev pub standsFor : Value → Option (List ℕ)
 standsFor (Code c) = some (charOf c)
 standsFor Broken = none
 
 -- the bytes that a value stands for; none where the slice breaks its rule
-unfoldable pub referenceOf : Marker → List ℕ → Option (List ℕ)
-referenceOf marker s = standsFor (valueOf marker s)
+unfoldable pub referenceFor : Names → Marker → List ℕ → Option (List ℕ)
+referenceFor option marker s = standsFor (valueOf option marker s)
+
+-- and as the crate has them. Whether there are any is the same for both options
+abbrev pub referenceOf : Marker → List ℕ → Option (List ℕ)
+referenceOf marker s = referenceFor Html5 marker s
 
 abbrev pub isSome : Option (List ℕ) → Bool
 isSome none = false

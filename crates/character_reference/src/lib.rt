@@ -5,14 +5,22 @@ ghost use mathlib.Core.Path.{_≡_};
 ghost use Rattle.lent.specs.Bytes.{same};
 ghost use Rattle.lent.specs.Fill.{Filled};
 ghost use Rattle.character_reference.specs.Reference.{isReplaced, codeOf, digitValue, numeralOf};
-ghost use Rattle.character_reference.specs.Reference.{lookup, namedOf, valueOf, referenceOf, isSome, orNothing};
-ghost use Rattle.character_reference.specs.Table.{isPackedFrom, unpackedFrom};
+ghost use Rattle.character_reference.specs.Reference.{lookup, namedOf, valueOf, referenceOf, referenceFor, isSome, orNothing};
+ghost use Rattle.character_reference.specs.Table.{orderOf, nameAt, Lies, isPackedFrom, unpackedFrom, isAscending};
+
+mod packed;
 
 // The newest marker before a value: 8, 9 or 10.
 pub enum Marker {
     Named,
     Decimal,
     Hexadecimal,
+}
+
+// The names option: `lang` and `rang` stand for U+2329 and U+232A in HTML 4.01, for U+27E8 and U+27E9 in HTML5.
+pub enum Names {
+    Html4,
+    Html5,
 }
 
 // What a value stands for: a code point, or nothing, since the slice breaks its rule.
@@ -78,81 +86,142 @@ fn numeral_of(s: &[u8], base: u32, most: usize) -> Value
     Value::Code(code_of(n))
 }
 
+// Where a byte string comes beside another.
+enum Order {
+    Before,
+    Same,
+    Behind,
+}
+
+// Where `s` comes beside `t`, byte by byte.
+fn order_of(s: &[u8], t: &[u8]) -> Order
+    ensures { λ r. ⌜ r ≡ orderOf (now (s .entry)) (now (t .entry)) ⌝ }
+{
+    let mut i = 0;
+    while i < s.len() {
+        if t.len() <= i {
+            return Order::Behind;
+        }
+        let x = s[i];
+        let y = t[i];
+        if x < y {
+            return Order::Before;
+        }
+        if y < x {
+            return Order::Behind;
+        }
+        i += 1;
+    }
+    if i < t.len() {
+        return Order::Before;
+    }
+    Order::Same
+}
+
 // Whether two byte strings are the same.
 fn is_same(s: &[u8], t: &[u8]) -> bool
     ensures { λ r. ⌜ r ≡ same (now (s .entry)) (now (t .entry)) ⌝ }
 {
-    if s.len() != t.len() {
-        return false;
+    match order_of(s, t) {
+        Order::Before => false,
+        Order::Same => true,
+        Order::Behind => false,
     }
-    let mut i = 0;
-    while i < s.len() {
-        if s[i] != t[i] {
-            return false;
-        }
-        i += 1;
-    }
-    true
 }
 
-// The first entry of a packed table that has this name.
-fn look_up(s: &[u8], names: &[u8], starts: &[usize], codes: &[u32]) -> Value
-    requires { ⌜ isPackedFrom (now names) (now starts) 0 (now codes) ≡ true ⌝ }
-    ensures { λ r. ⌜ r ≡ lookup (unpackedFrom (now (names .entry)) (now (starts .entry)) 0 (now (codes .entry))) (now (s .entry)) ⌝ }
+// Where a name comes beside the name `k` of a packed table.
+fn order_at(s: &[u8], packed: &[u8], starts: &[u16], k: usize) -> Order
+    requires { ⌜ Lies (now packed) (now starts) k ⌝ }
+    ensures { λ r. ⌜ r ≡ orderOf (now (s .entry)) (nameAt (now (packed .entry)) (now (starts .entry)) k) ⌝ }
 {
-    let mut k = 0;
-    while k < codes.len() {
-        let code = codes[k];
-        let from = starts[k];
-        let to = starts[k + 1];
-        if is_same(s, &names[from..to]) {
-            return Value::Code(code);
+    let from = starts[k] as usize;
+    let to = starts[k + 1] as usize;
+    order_of(s, &packed[from..to])
+}
+
+// The entry of a packed table that has this name, by halving: it lies from `low` up to `high`.
+fn look_up(s: &[u8], packed: &[u8], starts: &[u16], codes: &[u16]) -> Value
+    requires { ⌜ isPackedFrom (now packed) (now starts) 0 (now codes) ≡ true ⌝ }
+    requires { ⌜ isAscending (unpackedFrom (now packed) (now starts) 0 (now codes)) ≡ true ⌝ }
+    ensures { λ r. ⌜ r ≡ lookup (unpackedFrom (now (packed .entry)) (now (starts .entry)) 0 (now (codes .entry))) (now (s .entry)) ⌝ }
+{
+    let mut low: usize = 0;
+    let mut high = codes.len();
+    while low < high {
+        let k = low + (high - low) / 2;
+        match order_at(s, packed, starts, k) {
+            Order::Same => {
+                return Value::Code(codes[k] as u32);
+            }
+            Order::Before => {
+                high = k;
+                continue;
+            }
+            Order::Behind => {
+                low = k + 1;
+                continue;
+            }
         }
-        k += 1;
     }
     Value::Broken
 }
 
-// The names, ascending, one behind the other; where each starts, and the last ends; what each stands for.
-const NAMES: [u8; 15] = *b"ampgtltnbspquot";
+// What a name stands for in HTML5.
+fn named_5(s: &[u8]) -> Value
+    ensures { λ r. ⌜ r ≡ namedOf Names.Html5 (now (s .entry)) ⌝ }
+{
+    look_up(s, &packed::NAMES, &packed::STARTS, &packed::CODES)
+}
 
-const STARTS: [usize; 6] = [0, 3, 5, 7, 11, 15];
-
-const CODES: [u32; 5] = [0x26, 0x3E, 0x3C, 0xA0, 0x22];
+// And in HTML 4.01, which has two of them otherwise.
+fn named_4(s: &[u8]) -> Value
+    ensures { λ r. ⌜ r ≡ namedOf Names.Html4 (now (s .entry)) ⌝ }
+{
+    if is_same(s, b"lang") {
+        return Value::Code(0x2329);
+    }
+    if is_same(s, b"rang") {
+        return Value::Code(0x232A);
+    }
+    named_5(s)
+}
 
 // What a name stands for.
-fn named_of(s: &[u8]) -> Value
-    ensures { λ r. ⌜ r ≡ namedOf (now (s .entry)) ⌝ }
+fn named_of(names: Names, s: &[u8]) -> Value
+    ensures { λ r. ⌜ r ≡ namedOf names (now (s .entry)) ⌝ }
 {
-    look_up(s, &NAMES, &STARTS, &CODES)
+    match names {
+        Names::Html4 => named_4(s),
+        Names::Html5 => named_5(s),
+    }
 }
 
 // The code point of a value, or that the slice breaks its rule.
-pub fn value_of(marker: Marker, s: &[u8]) -> Value
-    ensures { λ r. ⌜ r ≡ valueOf marker (now (s .entry)) ⌝ }
+pub fn value_of(names: Names, marker: Marker, s: &[u8]) -> Value
+    ensures { λ r. ⌜ r ≡ valueOf names marker (now (s .entry)) ⌝ }
 {
     match marker {
-        Marker::Named => named_of(s),
+        Marker::Named => named_of(names, s),
         Marker::Decimal => numeral_of(s, 10, 7),
         Marker::Hexadecimal => numeral_of(s, 16, 6),
     }
 }
 
-// Whether a value keeps its slice's rule.
+// Whether a value keeps its slice's rule: both options have the same names.
 pub fn is_reference(marker: Marker, s: &[u8]) -> bool
     ensures { λ r. ⌜ r ≡ isSome (referenceOf marker (now (s .entry))) ⌝ }
 {
-    match value_of(marker, s) {
+    match value_of(Names::Html5, marker, s) {
         Value::Code(_) => true,
         Value::Broken => false,
     }
 }
 
 // Appends what a value stands for; nothing where it breaks its slice's rule.
-pub fn put_reference(out: &mut [u8], at: usize, marker: Marker, s: &[u8]) -> usize
-    ensures { λ r. ⌜ Filled (now (out .entry)) at (orNothing (referenceOf marker (now (s .entry)))) (now (out .exit)) r ⌝ }
+pub fn put_reference(out: &mut [u8], at: usize, names: Names, marker: Marker, s: &[u8]) -> usize
+    ensures { λ r. ⌜ Filled (now (out .entry)) at (orNothing (referenceFor names marker (now (s .entry)))) (now (out .exit)) r ⌝ }
 {
-    match value_of(marker, s) {
+    match value_of(names, marker, s) {
         Value::Code(c) => put_char::put_char(out, at, c),
         Value::Broken => at,
     }

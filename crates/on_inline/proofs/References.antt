@@ -8,6 +8,7 @@ use native.Mathlib.Omega.{arith}
 use lib.ListN.{length}
 use Rattle.encode.specs.Encode.{encodeOf}
 use Rattle.character_reference.specs.declared.Marker.{Marker}
+use Rattle.character_reference.specs.declared.Names.the-variants.{Html5}
 use Rattle.character_reference.specs.Reference.{referenceOf}
 use Rattle.event.specs.declared.Event.{Event}
 use Rattle.machine.specs.State.{State}
@@ -80,7 +81,7 @@ module _ (text : List ℕ) (e : Event) where
           let z : _≡_ {A = ℕ} 0 1 = cc in absurd (omega arith);
     }
 
-    pub refers : {n : Mark} {r : Context} {y : Bool} {x : Buffers} {w′ o′ : List ℕ} (m : Marker) → MarkIs c n → n ≡ M.Is m → ForgetsMarker c r → Tells Any (is encode) c y → PushesReference m (sliceIn text e) y (r .buffers) w o x w′ o′
+    pub refers : {n : Mark} {r : Context} {y : Bool} {x : Buffers} {w′ o′ : List ℕ} (m : Marker) → MarkIs c n → n ≡ M.Is m → ForgetsMarker c r → Tells Any (is encode) c y → PushesReference Html5 m (sliceIn text e) y (r .buffers) w o x w′ o′
         → Keeps (Sees text e) reference c w o (withBuffers x r) w′ o′
     refers {y = y} m a q f d k = record {
       keeps = λ t b s u v x p.

@@ -6,6 +6,7 @@ ghost use Rattle.machine.specs.Words.{unless, put, slice, tag, url, resumeCode}
 ghost use Rattle.machine.specs.OnText.{onExitCharacterReferenceValue, onExitRawText, onExitAutolinkEmail, onExitAutolinkProtocol};
 ghost use Rattle.context.specs.Rel.{Any, Sees, Keeps, Takes};
 ghost use Rattle.on_inline.specs.View.{SeesWith};
+use character_reference::Names;
 use context::Context;
 use context::Mark;
 use event::Event;
@@ -37,7 +38,15 @@ pub fn on_exit_character_reference_value(
     };
     let mut r = context::forget_marker(c);
     let encoding = context::encodes(c);
-    r.buffers = pieces::push_reference(r.buffers, captures, out, m, &text[from..to], encoding);
+    r.buffers = pieces::push_reference(
+        r.buffers,
+        captures,
+        out,
+        Names::Html5,
+        m,
+        &text[from..to],
+        encoding,
+    );
     r
 }
 

@@ -9,7 +9,8 @@ use Rattle.lent.specs.Fill.{Filled}
 use Rattle.lent.proofs.Laws.{both, each-append, take-fill, length-filled}
 use Rattle.encode.specs.Encode.{encodeByte, encodeOf}
 use Rattle.character_reference.specs.declared.Marker.{Marker}
-use Rattle.character_reference.specs.Reference.{referenceOf, orNothing}
+use Rattle.character_reference.specs.declared.Names.{Names}
+use Rattle.character_reference.specs.Reference.{referenceFor, orNothing}
 use Rattle.character_reference.proofs.Laws.{at-most-four}
 
 space : (on : Bool) → encodeByte on 32 ≡ 32 ∷ []
@@ -35,19 +36,19 @@ padded on m n s x y z =
 
 -- ---- a reference in four bytes
 
-module _ (m : Marker) (s : List ℕ) {d e : List ℕ} {n : ℕ} (four : length d ≡ 4) (f : Filled d 0 (orNothing (referenceOf m s)) e n) where
-  reference-long : n ≡ length (orNothing (referenceOf m s))
-  reference-long = let l = at-most-four m s in let p = f .place in omega arith
+module _ (names : Names) (m : Marker) (s : List ℕ) {d e : List ℕ} {n : ℕ} (four : length d ≡ 4) (f : Filled d 0 (orNothing (referenceFor names m s)) e n) where
+  reference-long : n ≡ length (orNothing (referenceFor names m s))
+  reference-long = let l = at-most-four names m s in let p = f .place in omega arith
 
   pub reference-fits : n ≤ length e
-  reference-fits = let l = at-most-four m s in let p = reference-long in let k = length-filled f in omega arith
+  reference-fits = let l = at-most-four names m s in let p = reference-long in let k = length-filled f in omega arith
 
-  reference-bytes : take n e ≡ orNothing (referenceOf m s)
+  reference-bytes : take n e ≡ orNothing (referenceFor names m s)
   reference-bytes =
-      let l = at-most-four m s in
-      let h : 0 + length (orNothing (referenceOf m s)) ≤ length d = omega arith in
-      let z : 0 + length (orNothing (referenceOf m s)) ≡ n = omega (arith, reference-long) in
-      rw (f .bytes) (rw z at (take-fill d 0 (orNothing (referenceOf m s)) h))
+      let l = at-most-four names m s in
+      let h : 0 + length (orNothing (referenceFor names m s)) ≤ length d = omega arith in
+      let z : 0 + length (orNothing (referenceFor names m s)) ≡ n = omega (arith, reference-long) in
+      rw (f .bytes) (rw z at (take-fill d 0 (orNothing (referenceFor names m s)) h))
 
-  pub referenced : {g h : List ℕ} {at r : ℕ} (on : Bool) → Filled g at (encodeOf on (take (n - 0) (drop 0 e))) h r → Filled g at (encodeOf on (orNothing (referenceOf m s))) h r
+  pub referenced : {g h : List ℕ} {at r : ℕ} (on : Bool) → Filled g at (encodeOf on (take (n - 0) (drop 0 e))) h r → Filled g at (encodeOf on (orNothing (referenceFor names m s))) h r
   referenced on x = let z : n - 0 ≡ n = omega arith in rw (← reference-bytes) (rw z at x)

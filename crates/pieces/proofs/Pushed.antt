@@ -10,7 +10,8 @@ use Rattle.lent.specs.Bytes.{bytes}
 use Rattle.encode.specs.Encode.{encodeOf}
 use Rattle.sanitize_uri.specs.Url.{sanitizeOf}
 use Rattle.character_reference.specs.declared.Marker.{Marker}
-use Rattle.character_reference.specs.Reference.{referenceOf, orNothing}
+use Rattle.character_reference.specs.declared.Names.{Names}
+use Rattle.character_reference.specs.Reference.{referenceFor, orNothing}
 use Rattle.event.specs.Event.{alignmentOf, alignmentsOf, columnsOf}
 use Rattle.event.proofs.Laws.{length-alignments, alignment-at}
 use Rattle.machine.specs.Buffers.{push}
@@ -31,9 +32,9 @@ module _ {b r : Buffers} {captures out captures′ out′ : List ℕ} where
   pub pushed-mail : (s : List ℕ) → Keeps (push (sanitizeOf (bytes "mailto:" ++ s))) b captures out r captures′ out′ → PushesMail s b captures out r captures′ out′
   pushed-mail s k = record { pushes = λ o. (rw (mail-url o s) k) }
 
-  pub pushed-reference : (m : Marker) (s : List ℕ) (encoding : Bool) → Keeps (push (encodeOf encoding (orNothing (referenceOf m s)))) b captures out r captures′ out′
-      → PushesReference m s encoding b captures out r captures′ out′
-  pushed-reference m s encoding k = record { pushes = λ v p. (rw p at k) }
+  pub pushed-reference : (names : Names) (m : Marker) (s : List ℕ) (encoding : Bool) → Keeps (push (encodeOf encoding (orNothing (referenceFor names m s)))) b captures out r captures′ out′
+      → PushesReference names m s encoding b captures out r captures′ out′
+  pushed-reference names m s encoding k = record { pushes = λ v p. (rw p at k) }
 
   pub pushed-start : (s : List ℕ) → Keeps (push (written (startOf s))) b captures out r captures′ out′ → PushesStart s b captures out r captures′ out′
   pushed-start s k = record { pushes = λ v p. (rw p at k) }

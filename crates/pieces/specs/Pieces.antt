@@ -8,7 +8,8 @@ use lib.ListN.{getElem?}
 use Rattle.lent.specs.Bytes.{bytes}
 use Rattle.encode.specs.Encode.{encodeOf}
 use Rattle.character_reference.specs.declared.Marker.{Marker}
-use Rattle.character_reference.specs.Reference.{referenceOf}
+use Rattle.character_reference.specs.declared.Names.{Names}
+use Rattle.character_reference.specs.Reference.{referenceFor}
 use Rattle.event.specs.declared.Event.{Event}
 use Rattle.event.specs.Event.{alignmentsOf}
 use Rattle.machine.specs.declared.Options.{Options}
@@ -24,8 +25,8 @@ pub record PushesMail (s : List ℕ) (b : Buffers) (captures out : List ℕ) (r 
   pub pushes : (o : Options) → Keeps (push (urlOf o false (bytes "mailto:" ++ s))) b captures out r captures′ out′
 
 -- a character reference's text
-pub record PushesReference (m : Marker) (s : List ℕ) (encoding : Bool) (b : Buffers) (captures out : List ℕ) (r : Buffers) (captures′ out′ : List ℕ) : Type 0 where
-  pub pushes : (v : List ℕ) → referenceOf m s ≡ some v → Keeps (push (encodeOf encoding v)) b captures out r captures′ out′
+pub record PushesReference (names : Names) (m : Marker) (s : List ℕ) (encoding : Bool) (b : Buffers) (captures out : List ℕ) (r : Buffers) (captures′ out′ : List ℕ) : Type 0 where
+  pub pushes : (v : List ℕ) → referenceFor names m s ≡ some v → Keeps (push (encodeOf encoding v)) b captures out r captures′ out′
 
 -- the attribute of a list that starts with the item value s
 pub record PushesStart (s : List ℕ) (b : Buffers) (captures out : List ℕ) (r : Buffers) (captures′ out′ : List ℕ) : Type 0 where

@@ -7,7 +7,7 @@ ghost use Rattle.lent.specs.Fill.{Filled};
 ghost use Rattle.encode.specs.Encode.{encodeOf};
 ghost use Rattle.sanitize_uri.specs.Url.{sanitizeOf};
 ghost use Rattle.event.specs.Event.{alignmentOf};
-ghost use Rattle.character_reference.specs.Reference.{referenceOf, orNothing};
+ghost use Rattle.character_reference.specs.Reference.{referenceFor, orNothing};
 ghost use Rattle.machine.specs.Buffers.{push};
 ghost use Rattle.machine.specs.Text.{decimal};
 ghost use Rattle.machine.specs.Turn.{urlOf};
@@ -15,6 +15,7 @@ ghost use Rattle.buffers.specs.Stand.{Keeps};
 ghost use Rattle.pieces.specs.Pieces.{PushesMail, PushesReference, PushesStart, PushesAlign, enterOf};
 use buffers::Buffers;
 use character_reference::Marker;
+use character_reference::Names;
 use event::BytePlace;
 use event::Event;
 use machine::Options;
@@ -127,27 +128,35 @@ pub fn push_reference(
     b: Buffers,
     captures: &mut [u8],
     out: &mut [u8],
+    names: Names,
     m: Marker,
     s: &[u8],
     encoding: bool,
 ) -> Buffers
-    ensures { λ r. ⌜ PushesReference m (now (s .entry)) encoding b (now (captures .entry)) (now (out .entry)) r (now (captures .exit)) (now (out .exit)) ⌝ }
+    ensures { λ r. ⌜ PushesReference names m (now (s .entry)) encoding b (now (captures .entry)) (now (out .entry)) r (now (captures .exit)) (now (out .exit)) ⌝ }
 {
     let mut r = b;
     if b.depth == 0 {
-        r.page = put_reference(out, b.page, m, s, encoding);
+        r.page = put_reference(out, b.page, names, m, s, encoding);
         return r;
     }
-    r.end = put_reference(captures, b.end, m, s, encoding);
+    r.end = put_reference(captures, b.end, names, m, s, encoding);
     r
 }
 
 // It is four bytes at most.
-fn put_reference(out: &mut [u8], at: usize, m: Marker, s: &[u8], encoding: bool) -> usize
-    ensures { λ r. ⌜ Filled (now (out .entry)) at (encodeOf encoding (orNothing (referenceOf m (now (s .entry))))) (now (out .exit)) r ⌝ }
+fn put_reference(
+    out: &mut [u8],
+    at: usize,
+    names: Names,
+    m: Marker,
+    s: &[u8],
+    encoding: bool,
+) -> usize
+    ensures { λ r. ⌜ Filled (now (out .entry)) at (encodeOf encoding (orNothing (referenceFor names m (now (s .entry))))) (now (out .exit)) r ⌝ }
 {
     let mut d = [0u8; 4];
-    let n = character_reference::put_reference(&mut d, 0, m, s);
+    let n = character_reference::put_reference(&mut d, 0, names, m, s);
     encode::encode(&d[0..n], encoding, out, at)
 }
 

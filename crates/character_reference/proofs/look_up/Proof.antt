@@ -1,74 +1,67 @@
--- The loop's invariant: the entries left are packed, and the name is looked up in them. Assumes nothing.
-use mathlib.Core.Path.{_≡_}
-use mathlib.Core.Bool.{true}
+-- The loop's invariant: the name can only be one of those from `low` up to `high`. Assumes nothing.
 use Prim.Native.Nat.{_-_}
-use lib.ListN.{length, drop}
-use Rattle.character_reference.specs.Reference.{lookup}
-use Rattle.character_reference.specs.Table.{unpackedFrom, isPackedFrom}
-use Rattle.character_reference.proofs.Names.{start-there, end-there, in-order, within, fair-on, found, passed, no-entry-left}
+use native.Mathlib.Omega.{arith}
+use Rattle.character_reference.proofs.Search.{Between, middle, whole, there, in-table, below-high, found, lower, higher, gone}
 use borrow.Author.Needs.{needs}
 use Rattle.character_reference.proofs.look_up.Statement.{statement}
 use Rattle.character_reference.proofs.look_up.Tie as tie
 
 abbrev Inv-loop : tie.InvT-loop
-Inv-loop s names starts codes k₀ k = (isPackedFrom names starts k (drop k codes) ≡ true) × (lookup (unpackedFrom names starts k (drop k codes)) s ≡ lookup (unpackedFrom names starts 0 codes) s)
+Inv-loop s packed starts codes low₀ high₀ low high = Between packed starts codes s low high
 
 abbrev μ-loop : tie.MeasureT-loop
-μ-loop s names starts codes k₀ k = length codes - k
+μ-loop s packed starts codes low₀ high₀ low high = high - low
 
 loop-holds : tie.Need-loop-holds Inv-loop μ-loop
-loop-holds c = search needs
+loop-holds c = search whole
 
-mul-code : tie.Need-mul-code Inv-loop μ-loop
-mul-code c = search needs
+sub-k : tie.Need-sub-k Inv-loop μ-loop
+sub-k c = search needs
 
-shared-slice-read-code : tie.Need-shared-slice-read-code Inv-loop μ-loop
-shared-slice-read-code c = search needs
+add-k : tie.Need-add-k Inv-loop μ-loop
+add-k c = search needs
 
-mul-from : tie.Need-mul-from Inv-loop μ-loop
-mul-from c = search needs
+order-at-requires : tie.Need-order-at-requires Inv-loop μ-loop
+order-at-requires c κs = search there
 
-shared-slice-read-from : tie.Need-shared-slice-read-from Inv-loop μ-loop
-shared-slice-read-from c = search start-there
+enum-told : tie.Need-enum-told Inv-loop μ-loop
+enum-told c = search needs
 
-add-to : tie.Need-add-to Inv-loop μ-loop
-add-to c = search needs
+mul-t12 : tie.Need-mul-t12 Inv-loop μ-loop
+mul-t12 c = search needs
 
-mul-to : tie.Need-mul-to Inv-loop μ-loop
-mul-to c = search needs
+shared-slice-read-t14 : tie.Need-shared-slice-read-t14 Inv-loop μ-loop
+shared-slice-read-t14 c = search in-table
 
-shared-slice-read-to : tie.Need-shared-slice-read-to Inv-loop μ-loop
-shared-slice-read-to c = search end-there
-
-sub-is-same : tie.Need-sub-is-same Inv-loop μ-loop
-sub-is-same c = search in-order
-
-part-is-same-start : tie.Need-part-is-same-start Inv-loop μ-loop
-part-is-same-start c = search in-order
-
-part-is-same-end : tie.Need-part-is-same-end Inv-loop μ-loop
-part-is-same-end c = search within
-
-is-same-requires : tie.Need-is-same-requires Inv-loop μ-loop
-is-same-requires c κs = search needs
+cast-t15 : tie.Need-cast-t15 Inv-loop μ-loop
+cast-t15 c = let l = c .before .before .before .before .before .loop in omega (arith, c .shared-slice-known5 .given (middle (l .low) (l .high)))
 
 returns : tie.Need-returns Inv-loop μ-loop
 returns c = search found
 
-add-k : tie.Need-add-k Inv-loop μ-loop
-add-k c = search needs
+enum-told-2 : tie.Need-enum-told-2 Inv-loop μ-loop
+enum-told-2 c = search needs
 
 loop-less : tie.Need-loop-less Inv-loop μ-loop
 loop-less c = search needs
 
 loop-again : tie.Need-loop-again Inv-loop μ-loop
-loop-again c =
-    let test = c .before .before .before .before .before .before in
-    let inv = test .before .loop .inv in
-    (search fair-on, passed _ _ _ _ _ (inv .1) (test .loop-test .taken) _ (c .before .is-same .ensures) (c .if1 .left))
+loop-again c = search lower
+
+enum-told-3 : tie.Need-enum-told-3 Inv-loop μ-loop
+enum-told-3 c = search needs
+
+add-low : tie.Need-add-low Inv-loop μ-loop
+add-low c = search needs
+
+loop-less-2 : tie.Need-loop-less-2 Inv-loop μ-loop
+loop-less-2 c = search needs
+
+loop-again-2 : tie.Need-loop-again-2 Inv-loop μ-loop
+loop-again-2 c = search higher
 
 returns-2 : tie.Need-returns-2 Inv-loop μ-loop
-returns-2 c = search no-entry-left
+returns-2 c = search gone
 
 pub look-up-spec : {M : Type 1} → statement M
 look-up-spec =
@@ -77,19 +70,19 @@ look-up-spec =
     Inv-loop
     μ-loop
     loop-holds
-    mul-code
-    shared-slice-read-code
-    mul-from
-    shared-slice-read-from
-    add-to
-    mul-to
-    shared-slice-read-to
-    sub-is-same
-    part-is-same-start
-    part-is-same-end
-    is-same-requires
-    returns
+    sub-k
     add-k
+    order-at-requires
+    enum-told
+    mul-t12
+    shared-slice-read-t14
+    cast-t15
+    returns
+    enum-told-2
     loop-less
     loop-again
+    enum-told-3
+    add-low
+    loop-less-2
+    loop-again-2
     returns-2)

@@ -1,34 +1,27 @@
--- The packed table is the definition's, by computation. Assumes nothing.
-use mathlib.Core.Path.{refl}
-use Rattle.character_reference.specs.Reference.{namedOf}
-use Rattle.character_reference.specs.Table.{unpackedFrom, isPackedFrom}
+-- By the option. Assumes nothing.
+use Rattle.character_reference.proofs.Laws.{by-4, by-5}
 use borrow.Author.Needs.{needs}
 use Rattle.character_reference.proofs.named_of.Statement.{statement}
 use Rattle.character_reference.proofs.named_of.Tie as tie
 
-slice-aggregate-look-up : tie.Need-slice-aggregate-look-up
-slice-aggregate-look-up c = search needs
+enum-told : tie.Need-enum-told
+enum-told c = search needs
 
-slice-aggregate-look-up-2 : tie.Need-slice-aggregate-look-up-2
-slice-aggregate-look-up-2 c = search needs
+named-4-requires : tie.Need-named-4-requires
+named-4-requires c κs = search needs
 
-slice-aggregate-look-up-3 : tie.Need-slice-aggregate-look-up-3
-slice-aggregate-look-up-3 c = search needs
+enum-told-2 : tie.Need-enum-told-2
+enum-told-2 c = search needs
 
-look-up-requires : tie.Need-look-up-requires
-unfolding isPackedFrom
-look-up-requires c κs = refl
+named-5-requires : tie.Need-named-5-requires
+named-5-requires c κs = search needs
 
 returns : tie.Need-returns
-unfolding namedOf unpackedFrom
-returns c = c .look-up .ensures
+returns c = search by-4
+
+returns-2 : tie.Need-returns-2
+returns-2 c = search by-5
 
 pub named-of-spec : {M : Type 1} → statement M
 named-of-spec =
-    tie.close
-    (tie.spec
-    slice-aggregate-look-up
-    slice-aggregate-look-up-2
-    slice-aggregate-look-up-3
-    look-up-requires
-    returns)
+    tie.close (tie.spec enum-told named-4-requires enum-told-2 named-5-requires returns returns-2)

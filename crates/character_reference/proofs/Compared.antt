@@ -1,0 +1,158 @@
+-- The laws of the order of byte strings. Assumes nothing.
+use mathlib.Core.Path.{_≡_, refl, sym, ap, _∙_}
+use mathlib.Core.Logic.{⊎-elim}
+use mathlib.Core.Bool.{Bool, true, false}
+use mathlib.Core.List.{List, [], _∷_}
+use Prim.Native.Nat.{ℕ, _+_, _<_, _≤_}
+use native.Mathlib.Omega.{arith}
+use borrow.Author.Tests.{lt-ltb, le-ltb, eq-eqb, ne-eqb, ltb-true, ltb-false}
+use lib.Dec.{ltb, eqb}
+use lib.ListN.{length, drop, getD, drop-of-length-le}
+use Rattle.lent.specs.Bytes.{same}
+use Rattle.lent.proofs.Laws.{next}
+use Rattle.character_reference.specs.declared.Order.{Order}
+use Rattle.character_reference.specs.declared.Order.the-variants.{Before, Same, Behind}
+use Rattle.character_reference.specs.Table.{orderOf}
+
+-- ---- by the first bytes
+
+module _ (x y : ℕ) (s t : List ℕ) where
+  first-less : x < y → orderOf (x ∷ s) (y ∷ t) ≡ Before
+  unfolding orderOf
+  first-less h = rw (lt-ltb x y h)
+
+  first-more : y < x → orderOf (x ∷ s) (y ∷ t) ≡ Behind
+  unfolding orderOf
+  first-more h = rw (le-ltb x y (omega arith), lt-ltb y x h)
+
+  first-same : x ≡ y → orderOf (x ∷ s) (y ∷ t) ≡ orderOf s t
+  unfolding orderOf
+  first-same e = rw (le-ltb x y (omega arith), le-ltb y x (omega arith))
+
+  -- what is shown for each of the three is shown
+  by-first : (P : Order → Type 0) → (x < y → P Before) → (y < x → P Behind) → (x ≡ y → P (orderOf s t)) → P (orderOf (x ∷ s) (y ∷ t))
+  by-first P less more equal = go (ltb x y) (ltb y x) refl refl
+    where
+      go : (a b : Bool) → ltb x y ≡ a → ltb y x ≡ b → P (orderOf (x ∷ s) (y ∷ t))
+      go true b p q = let h = ltb-true x y p in rw (first-less h) (less h)
+      go false true p q = let h = ltb-true y x q in rw (first-more h) (more h)
+      go false false p q = let e : x ≡ y = omega (arith, ltb-false x y p, ltb-false y x q) in rw (first-same e) (equal e)
+
+-- ---- what an order says
+
+abbrev pub isSame : Order → Bool
+isSame Before = false
+isSame Same = true
+isSame Behind = false
+
+pub told : (s t : List ℕ) → same s t ≡ isSame (orderOf s t)
+unfolding orderOf
+told [] [] = refl
+told [] (y ∷ t) = refl
+told (x ∷ s) [] = refl
+told (x ∷ s) (y ∷ t) =
+    by-first x y s t (λ o. same (x ∷ s) (y ∷ t) ≡ isSame o)
+    (λ h. rw (ne-eqb x y (omega arith)))
+    (λ h. rw (ne-eqb x y (omega arith)))
+    (λ e. rw (eq-eqb x y e) (told s t))
+
+module _ (s t : List ℕ) (x : Order) (e : x ≡ orderOf s t) where
+  pub same-there : x ≡ Same → true ≡ same s t
+  same-there p = sym (told s t ∙ rw (← e, p))
+
+  pub before-there : x ≡ Before → false ≡ same s t
+  before-there p = sym (told s t ∙ rw (← e, p))
+
+  pub behind-there : x ≡ Behind → false ≡ same s t
+  behind-there p = sym (told s t ∙ rw (← e, p))
+
+abbrev flipped : Order → Order
+flipped Before = Behind
+flipped Same = Same
+flipped Behind = Before
+
+pub other-way : (s t : List ℕ) → orderOf t s ≡ flipped (orderOf s t)
+unfolding orderOf
+other-way [] [] = refl
+other-way [] (y ∷ t) = refl
+other-way (x ∷ s) [] = refl
+other-way (x ∷ s) (y ∷ t) =
+    by-first x y s t (λ o. orderOf (y ∷ t) (x ∷ s) ≡ flipped o)
+    (λ h. first-more y x t s h)
+    (λ h. first-less y x t s h)
+    (λ e. first-same y x t s (sym e) ∙ other-way s t)
+
+pub equal : (s t : List ℕ) → orderOf s t ≡ Same → s ≡ t
+unfolding orderOf
+equal [] [] p = refl
+equal [] (y ∷ t) p = let z : _≡_ {A = ℕ} 0 1 = cc in absurd (omega arith)
+equal (x ∷ s) [] p = let z : _≡_ {A = ℕ} 0 1 = cc in absurd (omega arith)
+equal (x ∷ s) (y ∷ t) p =
+    by-first x y s t (λ o. o ≡ Same → (x ∷ s) ≡ (y ∷ t))
+    (λ h q. let z : _≡_ {A = ℕ} 0 1 = cc in absurd (omega arith))
+    (λ h q. let z : _≡_ {A = ℕ} 0 1 = cc in absurd (omega arith))
+    (λ e q. rw (e, equal s t q))
+    p
+
+same-order : (o : Order) → isSame o ≡ true → o ≡ Same
+same-order Before p = let z : _≡_ {A = ℕ} 0 1 = cc in absurd (omega arith)
+same-order Same p = refl
+same-order Behind p = let z : _≡_ {A = ℕ} 0 1 = cc in absurd (omega arith)
+
+pub same-equal : (s t : List ℕ) → same s t ≡ true → s ≡ t
+same-equal s t p = equal s t (same-order (orderOf s t) (sym (told s t) ∙ p))
+
+pub before-trans : (s t u : List ℕ) → orderOf s t ≡ Before → orderOf t u ≡ Before → orderOf s u ≡ Before
+unfolding orderOf
+before-trans s [] u p q = absurd (none-before s p)
+  where
+    none-before : (s : List ℕ) → orderOf s [] ≡ Before → ⊥
+    none-before [] p = let z : _≡_ {A = ℕ} 0 1 = cc in omega arith
+    none-before (x ∷ s) p = let z : _≡_ {A = ℕ} 0 1 = cc in omega arith
+before-trans [] (y ∷ t) [] p q = let z : _≡_ {A = ℕ} 0 1 = cc in absurd (omega arith)
+before-trans [] (y ∷ t) (z ∷ u) p q = refl
+before-trans (x ∷ s) (y ∷ t) [] p q = let z : _≡_ {A = ℕ} 0 1 = cc in absurd (omega arith)
+before-trans (x ∷ s) (y ∷ t) (z ∷ u) p q =
+    by-first x y s t (λ o. o ≡ Before → orderOf (x ∷ s) (z ∷ u) ≡ Before)
+    (λ h e. by-first y z t u (λ o. o ≡ Before → orderOf (x ∷ s) (z ∷ u) ≡ Before)
+    (λ l f. first-less x z s u (omega arith))
+    (λ l f. let z : _≡_ {A = ℕ} 0 1 = cc in absurd (omega arith))
+    (λ l f. first-less x z s u (omega arith))
+    q)
+    (λ h e. let z : _≡_ {A = ℕ} 0 1 = cc in absurd (omega arith))
+    (λ h e. by-first y z t u (λ o. o ≡ Before → orderOf (x ∷ s) (z ∷ u) ≡ Before)
+    (λ l f. first-less x z s u (omega arith))
+    (λ l f. let z : _≡_ {A = ℕ} 0 1 = cc in absurd (omega arith))
+    (λ l f. first-same x z s u (h ∙ l) ∙ before-trans s t u e f)
+    q)
+    p
+
+-- ---- from the place i on
+
+module _ (s t : List ℕ) (i : ℕ) (left : orderOf (drop i s) (drop i t) ≡ orderOf s t) where
+  module _ (h : i < length s) where
+    pub longer : length t ≤ i → Behind ≡ orderOf s t
+    unfolding orderOf
+    longer k = rw (next s i h, drop-of-length-le t k) at left
+
+    module _ (k : i < length t) where
+      both-left : orderOf (getD s i 0 ∷ drop (i + 1) s) (getD t i 0 ∷ drop (i + 1) t) ≡ orderOf s t
+      both-left = rw (next s i h, next t i k) at left
+
+      pub byte-less : getD s i 0 < getD t i 0 → Before ≡ orderOf s t
+      byte-less l = sym (first-less (getD s i 0) (getD t i 0) (drop (i + 1) s) (drop (i + 1) t) l) ∙ both-left
+
+      pub byte-more : getD t i 0 < getD s i 0 → Behind ≡ orderOf s t
+      byte-more l = sym (first-more (getD s i 0) (getD t i 0) (drop (i + 1) s) (drop (i + 1) t) l) ∙ both-left
+
+      pub byte-same : getD t i 0 ≤ getD s i 0 → getD s i 0 ≤ getD t i 0 → orderOf (drop (i + 1) s) (drop (i + 1) t) ≡ orderOf s t
+      byte-same l m = sym (first-same (getD s i 0) (getD t i 0) (drop (i + 1) s) (drop (i + 1) t) (omega arith)) ∙ both-left
+
+  module _ (h : length s ≤ i) where
+    pub shorter : i < length t → Before ≡ orderOf s t
+    unfolding orderOf
+    shorter k = rw (drop-of-length-le s h, next t i k) at left
+
+    pub both-end : length t ≤ i → Same ≡ orderOf s t
+    unfolding orderOf
+    both-end k = rw (drop-of-length-le s h, drop-of-length-le t k) at left

@@ -1,0 +1,36 @@
+-- The packed table is the definition's, by computation. Assumes nothing.
+use mathlib.Core.Path.{refl}
+use Rattle.character_reference.specs.Names.{names}
+use Rattle.character_reference.specs.Reference.{namesOf, namedOf}
+use Rattle.character_reference.specs.Table.{unpackedFrom, isPackedFrom}
+use Rattle.character_reference.proofs.Entries.{names-ascend}
+use borrow.Author.Needs.{needs}
+use Rattle.character_reference.proofs.named_5.Statement.{statement}
+use Rattle.character_reference.proofs.named_5.Tie as tie
+
+slice-aggregate-look-up : tie.Need-slice-aggregate-look-up
+slice-aggregate-look-up c = search needs
+
+slice-aggregate-look-up-2 : tie.Need-slice-aggregate-look-up-2
+slice-aggregate-look-up-2 c = search needs
+
+slice-aggregate-look-up-3 : tie.Need-slice-aggregate-look-up-3
+slice-aggregate-look-up-3 c = search needs
+
+look-up-requires : tie.Need-look-up-requires
+unfolding isPackedFrom unpackedFrom names
+look-up-requires c κs = (refl, names-ascend)
+
+returns : tie.Need-returns
+unfolding namedOf namesOf unpackedFrom names
+returns c = c .look-up .ensures
+
+pub named-5-spec : {M : Type 1} → statement M
+named-5-spec =
+    tie.close
+    (tie.spec
+    slice-aggregate-look-up
+    slice-aggregate-look-up-2
+    slice-aggregate-look-up-3
+    look-up-requires
+    returns)
