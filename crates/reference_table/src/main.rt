@@ -1,7 +1,9 @@
-// What numbers give as character references: each run of numbers that give the same, 0 to 11FFFF through hexadecimal digits,
-// then all that seven decimal digits can say. The file stdout is 01's list of numbers.
+// What numbers and names give as character references: each run of numbers that give the same, 0 to 11FFFF through hexadecimal
+// digits, then all that seven decimal digits can say; then what each line of the input gives as a name, with HTML 4.01's names and
+// with HTML5's. The file stdout has 01's list of numbers, and the names of tools/reference_names.
 ghost use Prim.Native.Nat.{_<_};
 use character_reference::Marker;
+use character_reference::Names;
 use character_reference::Value;
 use libc::STDOUT_FILENO;
 
@@ -29,7 +31,7 @@ fn by_hexadecimal(n: u32) -> u8 {
     let k = io::hex(n as u64, 1, &mut digits);
     kind_of(
         n,
-        character_reference::value_of(Marker::Hexadecimal, &digits[..k]),
+        character_reference::value_of(Names::Html5, Marker::Hexadecimal, &digits[..k]),
     )
 }
 
@@ -38,7 +40,7 @@ fn by_decimal(n: u32) -> u8 {
     let k = io::decimal(n as u64, &mut digits);
     kind_of(
         n,
-        character_reference::value_of(Marker::Decimal, &digits[..k]),
+        character_reference::value_of(Names::Html5, Marker::Decimal, &digits[..k]),
     )
 }
 
@@ -86,7 +88,43 @@ fn write_runs(base: u32, end: u32)
     write_run(from, end - 1, kind);
 }
 
+fn write_code(v: Value) {
+    io::write_all(STDOUT_FILENO, b" ");
+    match v {
+        Value::Code(c) => io::print_hex(STDOUT_FILENO, c as u64, 1),
+        Value::Broken => io::write_all(STDOUT_FILENO, b"none"),
+    }
+    ;
+}
+
+fn write_name(s: &[u8]) {
+    io::write_all(STDOUT_FILENO, b"&");
+    io::write_all(STDOUT_FILENO, s);
+    io::write_all(STDOUT_FILENO, b";");
+    write_code(character_reference::value_of(Names::Html4, Marker::Named, s));
+    write_code(character_reference::value_of(Names::Html5, Marker::Named, s));
+    io::write_all(STDOUT_FILENO, b"\n");
+}
+
+// Each line.
+fn write_names(lines: &[u8]) {
+    let mut from: usize = 0;
+    let mut i: usize = 0;
+    while i < lines.len() {
+        if lines[i] == b'\n' {
+            write_name(&lines[from..i]);
+            from = i + 1;
+            i += 1;
+            continue;
+        }
+        i += 1;
+    }
+}
+
 fn main() {
     write_runs(16, 0x120000);
     write_runs(10, 10_000_000);
+    let mut lines = io::large_buffer();
+    let n = io::read_full(0, &mut lines);
+    write_names(&lines[..n]);
 }

@@ -1,6 +1,7 @@
 // Document 01's checker, read by itself and not from the proved code: refusals 1 to 7 of a text and its events.
 use crate::judge::identity_by_01 as identity;
 use crate::record::{self, Record, ENTER, EXIT};
+use crate::references::names;
 
 /// A refusal's number and place; 0 and 0 for yes. The lowest number wins, then the earliest event.
 pub fn check(text: &[u8], events: &[u8]) -> (u32, usize) {
@@ -290,7 +291,7 @@ impl Tree<'_> {
             UNDERLINE_SEQUENCE => slice.starts_with(['-', '=']),
             REFERENCE_VALUE if self.beside(element, HEXADECIMAL_MARKER) => slice.len() <= 6 && digits(slice, 16),
             REFERENCE_VALUE if self.beside(element, NUMERIC_MARKER) => slice.len() <= 7 && digits(slice, 10),
-            REFERENCE_VALUE => matches!(slice, "amp" | "lt" | "gt" | "quot" | "nbsp"),
+            REFERENCE_VALUE => names().any(|name| name == slice),
             _ => true,
         }
     }

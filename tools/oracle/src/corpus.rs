@@ -97,7 +97,7 @@ const CASES: [(Case, &str); 16] = [
     (CaretLabel, "47: 48, then 5, as `[^](b)`"),
     (ListInList, "a list directly in a list"),
     (Columns, "a table of 25 columns or more"),
-    (OtherName, "11 outside the five names, as `&copy;`"),
+    (OtherName, "11 outside the 252 names, as `&AMP;`"),
     (LetterOutsideAscii, "labels that differ in the case of a letter outside ASCII"),
     (LostGap, "labels that differ in an inner space which the crate loses"),
     (Crossing, "enters and exits that cross"),

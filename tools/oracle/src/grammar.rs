@@ -3,6 +3,7 @@ use crate::check::{self, after, first_part, holds, FLOW, INLINE};
 use crate::lists::List;
 use crate::random::Random;
 use crate::record::Record;
+use crate::references::names;
 
 /// Labels of different identities, each with another label of the same identity.
 const LABELS: [[&str; 2]; 8] = [
@@ -274,7 +275,7 @@ impl Maker {
             18 => self.pick(&["-", "=", "===", "-é", "= -"]),
             11 if siblings.contains(&10) => self.pick(&["0", "9", "10FFFF", "aBcDeF", "000041"]),
             11 if siblings.contains(&9) => self.pick(&["0", "9", "35", "9999999", "1114112"]),
-            11 => self.pick(&["amp", "lt", "gt", "quot", "nbsp"]),
+            11 => self.pick(&names().collect::<Vec<_>>()),
             48 | 52 | 54 | 65 => return self.label(open.name),
             _ => return self.any_slice(open.start),
         };

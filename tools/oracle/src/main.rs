@@ -45,7 +45,7 @@ use std::time::Instant;
 
 const USAGE: &str = "usage: oracle leaves|bundles|parts|writes|checks PROGRAM WORDS... | \
     oracle builds all|FAMILY,.. PROGRAM WORDS... | oracle files PROGRAM WORDS... <PATHS | oracle alone | \
-    oracle vectors|build-vectors|part-vectors|write-vectors DIR | oracle references | \
+    oracle vectors|build-vectors|part-vectors|write-vectors DIR | oracle references <NAMES | \
     oracle export|compile OPTIONS ENDING";
 
 fn main() {

@@ -83,7 +83,7 @@ const CONSTRUCTS: [Construct; 70] = [
     Around("- ```\n- {}"),
 ];
 
-const LEAVES: [&str; 25] = [
+const LEAVES: [&str; 27] = [
     "a",
     "b",
     "a b",
@@ -98,9 +98,11 @@ const LEAVES: [&str; 25] = [
     "\0",
     "amp",
     "copy",
+    "lang",
     "x1F",
     "&lt;",
     "&copy;",
+    "&AMP;",
     "*",
     "`",
     "[a]",

@@ -1,5 +1,6 @@
-// What the crate makes of character references: a line `from to kind` for each run of numbers, then the five names.
+// What the crate makes of character references: a line `from to kind` for each run of numbers, then a line for each name on standard input.
 use markdown::util::character_reference::{decode_named, decode_numeric};
+use std::io::{stdin, BufRead};
 
 /// Prints the runs over every number that a reference can hold, up to six hexadecimal digits. Each is asked of the
 /// crate: in both cases of the digits, with and without leading zeros, and in decimal where seven digits suffice.
@@ -13,11 +14,21 @@ pub fn print() {
         }
     }
     println!("{from:X} FFFFFF {running}");
-    for name in ["amp", "lt", "gt", "quot", "nbsp"] {
-        let bytes = decode_named(name, true).expect("the crate has the name").into_bytes();
-        let digits: String = bytes.iter().map(|byte| format!("{byte:02X}")).collect();
-        println!("name {name} {digits}");
+    for name in stdin().lock().lines() {
+        let name = name.expect("a line of text");
+        println!("&{name}; {}", codes(&name));
     }
+}
+
+/// The code points that a name stands for in HTML5, or `none`.
+fn codes(name: &str) -> String {
+    let Some(text) = decode_named(name, true) else { return "none".to_string() };
+    text.chars().map(|character| format!("{:x}", u32::from(character))).collect::<Vec<_>>().join("+")
+}
+
+/// The 252 names of HTML 4.01, by the crate's own list. It has `lang` and `rang` otherwise, so only the names are taken from it.
+pub fn names() -> impl Iterator<Item = &'static str> {
+    markdown::util::constant::CHARACTER_REFERENCES_HTML_4.iter().map(|entry| entry.0)
 }
 
 /// `itself`: the bytes are the number's UTF-8; `replaced`: they are U+FFFD's.
