@@ -1,15 +1,12 @@
 -- The laws of the order of byte strings. Assumes nothing.
-use mathlib.Core.Path.{_≡_, refl, sym, ap, _∙_}
-use mathlib.Core.Logic.{⊎-elim}
+use mathlib.Core.Path.{_≡_, refl, sym, _∙_}
 use mathlib.Core.Bool.{Bool, true, false}
 use mathlib.Core.List.{List, [], _∷_}
-use Prim.Native.Nat.{ℕ, _+_, _<_, _≤_}
+use Prim.Native.Nat.{ℕ, _<_}
 use native.Mathlib.Omega.{arith}
 use borrow.Author.Tests.{lt-ltb, le-ltb, eq-eqb, ne-eqb, ltb-true, ltb-false}
-use lib.Dec.{ltb, eqb}
-use lib.ListN.{length, drop, getD, drop-of-length-le}
+use lib.Dec.{ltb}
 use Rattle.lent.specs.Bytes.{same}
-use Rattle.lent.proofs.Laws.{next}
 use Rattle.character_reference.specs.declared.Order.{Order}
 use Rattle.character_reference.specs.declared.Order.the-variants.{Before, Same, Behind}
 use Rattle.character_reference.specs.Table.{orderOf}
@@ -17,15 +14,15 @@ use Rattle.character_reference.specs.Table.{orderOf}
 -- ---- by the first bytes
 
 module _ (x y : ℕ) (s t : List ℕ) where
-  first-less : x < y → orderOf (x ∷ s) (y ∷ t) ≡ Before
+  pub first-less : x < y → orderOf (x ∷ s) (y ∷ t) ≡ Before
   unfolding orderOf
   first-less h = rw (lt-ltb x y h)
 
-  first-more : y < x → orderOf (x ∷ s) (y ∷ t) ≡ Behind
+  pub first-more : y < x → orderOf (x ∷ s) (y ∷ t) ≡ Behind
   unfolding orderOf
   first-more h = rw (le-ltb x y (omega arith), lt-ltb y x h)
 
-  first-same : x ≡ y → orderOf (x ∷ s) (y ∷ t) ≡ orderOf s t
+  pub first-same : x ≡ y → orderOf (x ∷ s) (y ∷ t) ≡ orderOf s t
   unfolding orderOf
   first-same e = rw (le-ltb x y (omega arith), le-ltb y x (omega arith))
 
@@ -55,16 +52,6 @@ told (x ∷ s) (y ∷ t) =
     (λ h. rw (ne-eqb x y (omega arith)))
     (λ h. rw (ne-eqb x y (omega arith)))
     (λ e. rw (eq-eqb x y e) (told s t))
-
-module _ (s t : List ℕ) (x : Order) (e : x ≡ orderOf s t) where
-  pub same-there : x ≡ Same → true ≡ same s t
-  same-there p = sym (told s t ∙ rw (← e, p))
-
-  pub before-there : x ≡ Before → false ≡ same s t
-  before-there p = sym (told s t ∙ rw (← e, p))
-
-  pub behind-there : x ≡ Behind → false ≡ same s t
-  behind-there p = sym (told s t ∙ rw (← e, p))
 
 abbrev flipped : Order → Order
 flipped Before = Behind
@@ -126,33 +113,3 @@ before-trans (x ∷ s) (y ∷ t) (z ∷ u) p q =
     (λ l f. first-same x z s u (h ∙ l) ∙ before-trans s t u e f)
     q)
     p
-
--- ---- from the place i on
-
-module _ (s t : List ℕ) (i : ℕ) (left : orderOf (drop i s) (drop i t) ≡ orderOf s t) where
-  module _ (h : i < length s) where
-    pub longer : length t ≤ i → Behind ≡ orderOf s t
-    unfolding orderOf
-    longer k = rw (next s i h, drop-of-length-le t k) at left
-
-    module _ (k : i < length t) where
-      both-left : orderOf (getD s i 0 ∷ drop (i + 1) s) (getD t i 0 ∷ drop (i + 1) t) ≡ orderOf s t
-      both-left = rw (next s i h, next t i k) at left
-
-      pub byte-less : getD s i 0 < getD t i 0 → Before ≡ orderOf s t
-      byte-less l = sym (first-less (getD s i 0) (getD t i 0) (drop (i + 1) s) (drop (i + 1) t) l) ∙ both-left
-
-      pub byte-more : getD t i 0 < getD s i 0 → Behind ≡ orderOf s t
-      byte-more l = sym (first-more (getD s i 0) (getD t i 0) (drop (i + 1) s) (drop (i + 1) t) l) ∙ both-left
-
-      pub byte-same : getD t i 0 ≤ getD s i 0 → getD s i 0 ≤ getD t i 0 → orderOf (drop (i + 1) s) (drop (i + 1) t) ≡ orderOf s t
-      byte-same l m = sym (first-same (getD s i 0) (getD t i 0) (drop (i + 1) s) (drop (i + 1) t) (omega arith)) ∙ both-left
-
-  module _ (h : length s ≤ i) where
-    pub shorter : i < length t → Before ≡ orderOf s t
-    unfolding orderOf
-    shorter k = rw (drop-of-length-le s h, next t i k) at left
-
-    pub both-end : length t ≤ i → Same ≡ orderOf s t
-    unfolding orderOf
-    both-end k = rw (drop-of-length-le s h, drop-of-length-le t k) at left

@@ -14,7 +14,7 @@ use Rattle.character_reference.specs.Names.{names}
 use Rattle.character_reference.specs.Reference.{isReplaced, lookup, namesOf, namedOf}
 use Rattle.character_reference.specs.Table.{orderOf, isAscending}
 
--- `Search.ascending` is the rule at each two entries
+-- `Ascent.ascending` is the rule at each two entries
 pub names-ascend : isAscending names ≡ true
 unfolding names isAscending orderOf
 names-ascend = refl

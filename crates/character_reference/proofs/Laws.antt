@@ -1,39 +1,28 @@
 -- The laws of character references: what the code's cases rest on, and what callers go by. Assumes nothing.
-use mathlib.Core.Path.{_≡_, refl, sym, ap, subst, _∙_}
-use mathlib.Core.Bool.{Bool, true, false, not, cond, _&&_, _||_}
-use mathlib.Core.List.{List, [], _∷_}
+use mathlib.Core.Path.{_≡_, refl, sym, subst, _∙_}
+use mathlib.Core.Bool.{Bool, true, false, not, _||_}
+use mathlib.Core.List.{List}
 use mathlib.Core.Option.{some}
-use Prim.Native.Nat.{ℕ, _+_, _/_, _<_, _≤_}
+use Prim.Native.Nat.{ℕ, _<_, _≤_}
 use native.Mathlib.Omega.{arith}
 use borrow.Author.Tests.{lt-ltb, le-ltb, le-leb, ltb-false, leb-false, not-true}
 use lib.Dec.{eqb, leb, ltb, lit≤}
 use lib.ListN.{length}
-use Rattle.lent.specs.Bytes.{if_then_else_, bytes, between, same}
+use Rattle.lent.specs.Bytes.{if_then_else_, between}
 use Rattle.lent.specs.Fill.{Filled}
-use Rattle.lent.proofs.Laws.{none, and-left, and-right}
+use Rattle.lent.proofs.Laws.{none, and-left, and-right, or-left, or-right}
 use Rattle.character_reference.specs.declared.Names.{Names}
-use Rattle.character_reference.specs.declared.Names.the-variants.{Html4, Html5}
 use Rattle.character_reference.specs.declared.Marker.{Marker}
 use Rattle.character_reference.specs.declared.Marker.the-variants.{Named, Decimal, Hexadecimal}
 use Rattle.character_reference.specs.declared.Value.{Value}
 use Rattle.character_reference.specs.declared.Value.the-variants.{Code, Broken}
-use Rattle.utf8.specs.Utf8.{charOf, tail, replacement}
-use Rattle.character_reference.specs.Names.{names}
-use Rattle.character_reference.specs.Reference.{isReplaced, codeOf, areDigits, numberOf, numeralOf, lookup, namesOf, namedOf, valueOf, standsFor, referenceOf, referenceFor, isSome, orNothing}
+use Rattle.utf8.specs.Utf8.{charOf, replacement}
+use Rattle.character_reference.specs.Reference.{isReplaced, codeOf, areDigits, numberOf, numeralOf, namedOf, valueOf, standsFor, referenceFor, isSome, orNothing}
 use Rattle.put_char.specs.Written.{writtenOf}
-use Rattle.character_reference.proofs.Compared.{same-equal}
-use Rattle.character_reference.proofs.Entries.{either, isShort, Brief, named-short}
+use Rattle.character_reference.proofs.Entries.{either, Brief, named-short}
 use Rattle.character_reference.proofs.Numbers.{inside}
 
 -- ---- what a value's code can be
-
-or-right : (a b : Bool) → (a || b) ≡ false → b ≡ false
-or-right true b p = let z : _≡_ {A = ℕ} 0 1 = cc in absurd (omega arith)
-or-right false b p = p
-
-or-left : (a b : Bool) → (a || b) ≡ false → a ≡ false
-or-left true b p = p
-or-left false b p = refl
 
 -- the controls among the numbers replaced
 abbrev isControl : ℕ → Bool
@@ -86,28 +75,6 @@ value-kept option Decimal s = either Kept (areDigits 10 7 s) {x = Code (codeOf (
 value-kept option Hexadecimal s = either Kept (areDigits 16 6 s) {x = Code (codeOf (numberOf 16 s))} {y = Broken} (code-kept (numberOf 16 s)) tt
 
 -- ---- a value, by its marker
-
--- with 4: two names, then the table
-module _ (s : List ℕ) (x : Bool) where
-  pub is-lang : x ≡ same s (bytes "lang") → x ≡ true → Code 0x2329 ≡ namedOf Html4 s
-  unfolding namedOf namesOf lookup
-  is-lang e h = rw (← e, h)
-
-  module _ (e : x ≡ same s (bytes "lang")) (h : x ≡ false) (y : Bool) (f : y ≡ same s (bytes "rang")) where
-    pub is-rang : y ≡ true → Code 0x232A ≡ namedOf Html4 s
-    unfolding namedOf namesOf lookup
-    is-rang k = rw (← e, h, ← f, k)
-
-    pub as-newer : y ≡ false → (v : Value) → v ≡ namedOf Html5 s → v ≡ namedOf Html4 s
-    unfolding namedOf namesOf lookup
-    as-newer k v p = rw (← e, h, ← f, k) p
-
-module _ (option : Names) (s : List ℕ) (v : Value) where
-  pub by-4 : option ≡ Html4 → v ≡ namedOf Html4 s → v ≡ namedOf option s
-  by-4 o e = rw (o, e)
-
-  pub by-5 : option ≡ Html5 → v ≡ namedOf Html5 s → v ≡ namedOf option s
-  by-5 o e = rw (o, e)
 
 module _ (option : Names) (marker : Marker) (s : List ℕ) (v : Value) where
   pub by-name : marker ≡ Named → v ≡ namedOf option s → v ≡ valueOf option marker s
@@ -202,21 +169,3 @@ character c = go (isReplaced c)
     go : (t : Bool) → charOf (if t then 0xFFFD else c) ≡ (if t then replacement else charOf c)
     go true = refl
     go false = refl
-
--- ---- whether a value is one is the same with both options
-
-named-by-both : (s : List ℕ) → isSome (standsFor (namedOf Html4 s)) ≡ isSome (standsFor (namedOf Html5 s))
-unfolding namedOf namesOf lookup names
-named-by-both s = go (same s (bytes "lang")) (same s (bytes "rang")) refl refl
-  where
-    go : (a b : Bool) → same s (bytes "lang") ≡ a → same s (bytes "rang") ≡ b → isSome (standsFor (namedOf Html4 s)) ≡ isSome (standsFor (namedOf Html5 s))
-    go true b e f = rw (same-equal s (bytes "lang") e)
-    go false true e f = rw (same-equal s (bytes "rang") f)
-    go false false e f = ap (λ (v : Value). isSome (standsFor v)) (sym (as-newer s false (sym e) refl false (sym f) refl (namedOf Html5 s) refl))
-
-pub by-both : (option : Names) (marker : Marker) (s : List ℕ) → isSome (referenceFor option marker s) ≡ isSome (referenceOf marker s)
-unfolding referenceFor valueOf
-by-both Html4 Named s = named-by-both s
-by-both Html4 Decimal s = refl
-by-both Html4 Hexadecimal s = refl
-by-both Html5 marker s = refl

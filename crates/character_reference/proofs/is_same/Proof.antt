@@ -1,5 +1,5 @@
 -- By what `order_of` says. Assumes nothing.
-use Rattle.character_reference.proofs.Compared.{same-there, before-there, behind-there}
+use Rattle.character_reference.proofs.Beside.{same-there, before-there, behind-there}
 use borrow.Author.Needs.{needs}
 use Rattle.character_reference.proofs.is_same.Statement.{statement}
 use Rattle.character_reference.proofs.is_same.Tie as tie

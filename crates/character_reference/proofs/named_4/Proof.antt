@@ -1,5 +1,5 @@
 -- Two names, then the table. Assumes nothing.
-use Rattle.character_reference.proofs.Laws.{is-lang, is-rang, as-newer}
+use Rattle.character_reference.proofs.Options.{is-lang, is-rang, as-newer}
 use borrow.Author.Needs.{needs}
 use Rattle.character_reference.proofs.named_4.Statement.{statement}
 use Rattle.character_reference.proofs.named_4.Tie as tie

@@ -1,5 +1,5 @@
 -- By the option. Assumes nothing.
-use Rattle.character_reference.proofs.Laws.{by-4, by-5}
+use Rattle.character_reference.proofs.Options.{by-4, by-5}
 use borrow.Author.Needs.{needs}
 use Rattle.character_reference.proofs.named_of.Statement.{statement}
 use Rattle.character_reference.proofs.named_of.Tie as tie

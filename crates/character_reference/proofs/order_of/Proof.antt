@@ -3,7 +3,7 @@ use mathlib.Core.Path.{_≡_}
 use Prim.Native.Nat.{_-_}
 use lib.ListN.{length, drop}
 use Rattle.character_reference.specs.Table.{orderOf}
-use Rattle.character_reference.proofs.Compared.{longer, byte-less, byte-more, byte-same, shorter, both-end}
+use Rattle.character_reference.proofs.Beside.{longer, byte-less, byte-more, byte-same, shorter, both-end}
 use borrow.Author.Needs.{needs}
 use Rattle.character_reference.proofs.order_of.Statement.{statement}
 use Rattle.character_reference.proofs.order_of.Tie as tie
