@@ -4,7 +4,7 @@ use crate::corpus::some_page_list;
 use crate::damage::each_damage;
 use crate::drive::Asked;
 use crate::edges::{path, repeated};
-use crate::export::PageOptions;
+use crate::export::{export, PageOptions};
 use crate::given;
 use crate::grammar::{random_list_of, ANY, PLAIN};
 use crate::lists::List;
@@ -13,6 +13,7 @@ use crate::pages::{whole_page, Build, LEAST_WORK};
 use crate::premises::{row, Row};
 use crate::random::Random;
 use crate::record::{self, Record, ENTER, LENGTH};
+use crate::references;
 use crate::vectors::some;
 use std::collections::{BTreeMap, BTreeSet};
 
@@ -43,6 +44,7 @@ pub fn chosen() -> Vec<Build> {
         chosen.extend(groups.values().flat_map(|group| some(group, count, &mut random)));
     }
     chosen.extend(limits());
+    chosen.extend(references());
     complete(&chosen);
     chosen
 }
@@ -123,6 +125,18 @@ fn same(list: &List) -> bool {
 fn with_room(list: List, options: PageOptions, more: usize) -> Build {
     let length = whole_page(&list, options).map_or(20, |page| page.len());
     Build::new(list, options, length + more)
+}
+
+/// All names together, and some in each place that takes a reference.
+fn references() -> Vec<Build> {
+    let some = ["AElig", "amp", "lang", "lrm", "lt", "nbsp", "quot", "rang", "rlm", "thetasym", "zwj", "zwnj", "apos", "AMP", "lan"];
+    let notes = some.into_iter().map(references::note).chain([references::all()]);
+    notes
+        .map(|note| {
+            let records = export(&note).expect("the parser takes it");
+            with_room(List::new(note, &records), OFF, 0)
+        })
+        .collect()
 }
 
 /// Three rooms that are too short.

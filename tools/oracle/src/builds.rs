@@ -14,6 +14,7 @@ use crate::pages::{whole_page, Build};
 use crate::premises::{row, Row, ROWS};
 use crate::random::Random;
 use crate::record;
+use crate::references::{self, near};
 use crate::table;
 use crate::totals;
 use std::collections::BTreeMap;
@@ -22,7 +23,7 @@ use std::time::Instant;
 /// What a family hands its builds to.
 pub type Ask<'a> = &'a mut dyn FnMut(Build);
 
-pub const FAMILIES: [(&str, fn(Ask)); 10] = [
+pub const FAMILIES: [(&str, fn(Ask)); 11] = [
     ("table", page_limits::table),
     ("limits", page_limits::limits),
     ("given", given::given),
@@ -32,6 +33,7 @@ pub const FAMILIES: [(&str, fn(Ask)); 10] = [
     ("plain", |ask| grammar(&PLAIN, ask)),
     ("any", |ask| grammar(&ANY, ask)),
     ("damaged", damaged),
+    ("references", references),
     ("notes", notes),
 ];
 
@@ -70,6 +72,17 @@ fn notes(ask: Ask) {
             with_rooms(List::new(note, &records), options, &mut random, true, ask);
         }
     });
+}
+
+/// Each name, and what is nearly one, in each place that takes a reference.
+fn references(ask: Ask) {
+    let mut random = Random(ROOMS_SEED);
+    let notes = near().into_iter().map(|name| references::note(&name));
+    for note in notes.chain([references::all()]) {
+        let records = export(&note).expect("the parser takes it");
+        let options = options(&mut random);
+        with_rooms(List::new(note, &records), options, &mut random, true, ask);
+    }
 }
 
 /// Every room from none to one more than the page, for short lists of each kind.

@@ -4,7 +4,7 @@ use crate::grammar::random_list;
 use crate::lists::{Ask, List};
 use crate::random::Random;
 use crate::record::{self, Record, EXIT};
-use crate::references::names;
+use crate::references::near;
 use crate::request::SANITIZE;
 
 /// An element, with the same slice for all that is in it.
@@ -217,13 +217,7 @@ fn slice_texts() -> Vec<String> {
     }
     let others = "apos NotEqual ampx xamp amplt nbsp; &lt \u{2028} \u{85} -é =é é- -- 0x1F 1_0 +1 -1 10FFFF 110000";
     texts.extend(others.split(' ').map(str::to_string));
-    for name in names() {
-        let shorter = [&name[1..], &name[..name.len() - 1]].map(str::to_string);
-        texts.extend([name.to_string(), name.to_uppercase(), name.to_lowercase(), format!("{name}s")]);
-        texts.extend(shorter);
-    }
-    texts.sort();
-    texts.dedup();
+    texts.extend(near());
     texts
 }
 

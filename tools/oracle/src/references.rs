@@ -31,6 +31,30 @@ pub fn names() -> impl Iterator<Item = &'static str> {
     markdown::util::constant::CHARACTER_REFERENCES_HTML_4.iter().map(|entry| entry.0)
 }
 
+/// The names, and each cut and prolonged by one, in upper and in lower case.
+pub fn near() -> Vec<String> {
+    let mut near = Vec::new();
+    for name in names() {
+        near.extend([name, &name[1..], &name[..name.len() - 1]].map(str::to_string));
+        near.extend([format!("{name}s"), name.to_uppercase(), name.to_lowercase()]);
+    }
+    near.sort();
+    near.dedup();
+    near
+}
+
+/// A note with a reference in each place that takes one: text, the parts of a link and of an image, a heading, a label and its
+/// definition, a cell, a footnote, an info string.
+pub fn note(name: &str) -> String {
+    "& [&](</&> \"&\") ![&](&)\n\n# &\n\n[&] [^a]\n\n[&]: <&> '&'\n\n|&|\n|-|\n|&|\n\n[^a]: &\n\n~~~ & &\n&\n~~~\n"
+        .replace('&', &format!("&{name};"))
+}
+
+/// All names, one behind the other.
+pub fn all() -> String {
+    names().map(|name| format!("&{name};")).collect()
+}
+
 /// `itself`: the bytes are the number's UTF-8; `replaced`: they are U+FFFD's.
 fn kind(number: u32) -> &'static str {
     let answer = decode_numeric(&format!("{number:X}"), 16);
