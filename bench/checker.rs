@@ -27,12 +27,13 @@ fn build(text: &[u8], events: &[u8], out: &mut [u8], work: &mut [u8]) -> u64 {
 }
 
 /// A block of each kind of note, to be repeated.
-const KINDS: [(&str, &str); 5] = [
+const KINDS: [(&str, &str); 6] = [
     ("plain", "The offset of the packet is set by the ground and is read again on the next pass over the station.\n\n"),
     ("prose", "The *offset* of the `packet` is [set](https://example.com/a) by **the ground** & read &lt;again&gt;.\n\n"),
     ("code", "```c\nif (offset < 0 && packet > 3) {\n    return \"again\";\n}\n```\n\n"),
     ("lists", "1. set the offset\n2. read it\n   * again\n   * and *again*\n\ntext\n\n"),
     ("tables", "| field | unit |\n|:--|--:|\n| offset | m |\n| rate[^a] | m/s |\n\n[^a]: on the ground\n\n"),
+    ("references", "&deg; &micro; &rarr; &Omega; &lang; &hellip; &nbsp; &times; &zwnj; &AElig;\n\n"),
 ];
 
 fn options() -> ParseOptions {
