@@ -5,6 +5,7 @@ ghost use lib.ListN.{length};
 use bundle_parts::Progress;
 use bundle_parts::Reader;
 use bundle_writer::Packed;
+use character_reference::Names;
 use machine::Ending;
 use machine::Options;
 
@@ -22,6 +23,7 @@ struct Request {
     op: u8,
     options: u8,
     ending: u8,
+    names: u8,
     text: usize,
     events: usize,
     room: usize,
@@ -82,6 +84,7 @@ fn read_request(header: &[u8; 32]) -> Request {
         op: header[0],
         options: header[1],
         ending: header[2],
+        names: header[3],
         text: u32_at(header, 4),
         events: u32_at(header, 8),
         room: u32_at(header, 12),
@@ -244,11 +247,20 @@ fn call_build(
 fn options_of(r: Request) -> Options {
     let bits = r.options;
     let ending = ending_of(r.ending);
+    let names = names_of(r.names);
     Options {
         allow_dangerous_html: bits % 2 == 1,
         allow_dangerous_protocol: bits / 2 % 2 == 1,
         allow_any_img_src: bits / 4 % 2 == 1,
         ending,
+        names,
+    }
+}
+
+fn names_of(names: u8) -> Names {
+    match names {
+        4 => Names::Html4,
+        _ => Names::Html5,
     }
 }
 

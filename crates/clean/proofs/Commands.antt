@@ -97,7 +97,7 @@ awaited (fences x) t s c = goes (alike (setFences x s) c refl)
 awaited countFence t s c = chain _ (any (need (s .waiting .fences))) (λ n _. goes (alike (setFences (some (suc n)) s) c refl))
 awaited (marker m) t s c = goes (alike (setMarker (some m) s) c refl)
 awaited reference t s c =
-    chain _ (any (need (s .waiting .marker))) (λ m _. chain _ (any (ownStr t)) (λ b _. chain _ (needed (referred m b)) (λ d v. goes (pushed-encoded (alike (setMarker none s) c refl) v))))
+    chain _ (any (need (s .waiting .marker))) (λ m _. chain _ (any (ownStr t)) (λ b _. chain _ (needed (referred (s .fixed .names) m b)) (λ d v. goes (pushed-encoded (alike (setMarker none s) c refl) v))))
 awaited (first x) t s c = goes (alike (setFirst (some x) s) c refl)
 
 counted : (x : Column) (t : Turn) (s : State) → Clean s → Safe Clean (counting x t s)

@@ -13,10 +13,10 @@ use Rattle.encode_byte.specs.Byte.{encodeByte}
 use Rattle.encode_byte.proofs.Laws.{kept}
 use Rattle.encode.specs.Encode.{encodeOf}
 use Rattle.character_reference.specs.declared.Marker.{Marker}
-use Rattle.character_reference.specs.declared.Names.the-variants.{Html5}
+use Rattle.character_reference.specs.declared.Names.{Names}
 use Rattle.character_reference.specs.declared.Value.{Value}
 use Rattle.character_reference.specs.declared.Value.the-variants.{Code, Broken}
-use Rattle.character_reference.specs.Reference.{valueOf, standsFor, referenceOf, referenceFor}
+use Rattle.character_reference.specs.Reference.{valueOf, standsFor, referenceFor}
 use Rattle.character_reference.proofs.Laws.{is-scalar}
 use Rattle.clean.specs.Clean.{Valid, Maybe, missing, there}
 use Rattle.clean.proofs.Valid.{valid, holds}
@@ -38,10 +38,10 @@ encoded on {b} v = valid (encodeOf on b) (each-valid (encodeByte on) (byte on) (
 
 -- ---- character references
 
-pub referred : (m : Marker) (b : List ℕ) → Maybe (referenceOf m b)
+pub referred : (names : Names) (m : Marker) (b : List ℕ) → Maybe (referenceFor names m b)
 unfolding referenceFor
-referred m b = on (valueOf Html5 m b) refl
+referred names m b = on (valueOf names m b) refl
   where
-    on : (v : Value) → v ≡ valueOf Html5 m b → Maybe (standsFor v)
-    on (Code c) e = there (valid (charOf c) (char-valid c (rw (is-scalar Html5 m b (Code c) c e refl) tt)))
+    on : (v : Value) → v ≡ valueOf names m b → Maybe (standsFor v)
+    on (Code c) e = there (valid (charOf c) (char-valid c (rw (is-scalar names m b (Code c) c e refl) tt)))
     on Broken e = missing

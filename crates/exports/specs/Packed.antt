@@ -12,6 +12,7 @@ use Rattle.written.specs.declared.Written.the-variants.{Length, TooLong, NotUtf
 use Rattle.written.specs.Written.{numberOf, Wrote}
 use Rattle.machine.specs.declared.Options.{Options}
 use Rattle.machine.specs.declared.Ending.the-variants.{Lf}
+use Rattle.character_reference.specs.declared.Names.the-variants.{Html5}
 use Rattle.built.specs.declared.Built.{Built}
 use Rattle.built.specs.declared.Built.the-variants.{Page, Refused, WorkFull, PageFull}
 use Rattle.built.specs.Built as B
@@ -43,7 +44,7 @@ pub record HasNumberLate (bundle t e u f : List ℕ) (r : ℕ) : Type 0 where
 
 -- all options off, LF for a text without line endings
 abbrev pub plain : Options
-plain = record { «allow_dangerous_html» = false; «allow_dangerous_protocol» = false; «allow_any_img_src» = false; ending = Lf }
+plain = record { «allow_dangerous_html» = false; «allow_dangerous_protocol» = false; «allow_any_img_src» = false; ending = Lf; names = Html5 }
 
 abbrev pub packedBuilt : Built → ℕ
 packedBuilt (Page n) = n

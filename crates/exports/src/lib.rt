@@ -12,6 +12,7 @@ ghost use Rattle.exports.specs.Cut.{Cut};
 use built::Built;
 use bundle_parts::Progress;
 use bundle_parts::Reader;
+use character_reference::Names;
 use machine::Ending;
 use machine::Options;
 
@@ -74,6 +75,7 @@ fn plain_options() -> Options
         allow_dangerous_protocol: false,
         allow_any_img_src: false,
         ending: Ending::Lf,
+        names: Names::Html5,
     }
 }
 

@@ -8,7 +8,7 @@ use lib.Dec.{T}
 use lib.ListN as L
 use lib.ListN.{length}
 use Rattle.event.specs.Event.{alignmentsOf}
-use Rattle.character_reference.specs.Reference.{referenceOf}
+use Rattle.character_reference.specs.Reference.{referenceFor}
 use Rattle.machine.specs.Outcome.{Outcome, _>>=_, need}
 use Rattle.machine.specs.State.{State, own}
 use Rattle.machine.specs.Set.{setTight, setLabels, setFlag, setSetext, setRank, setSeen, setFences, setMarker, setFirst, setAligns, setColumn, setDestination}
@@ -74,7 +74,7 @@ awaited (fences (some v)) t s = on (unmoved (turns (4 ∷ []) []) s (setFences (
 awaited countFence t s = chain _ (any (need (s .waiting .fences))) (λ v _. on (unmoved (turns (4 ∷ []) []) s (setFences (some (suc v)) s) refl refl refl refl (λ i. i) (λ i. i)))
 awaited (marker m) t s = on (unmoved (turns (5 ∷ []) (10 ∷ [])) s (setMarker (some m) s) refl refl refl refl (λ i. i) (λ i. i))
 awaited reference t s =
-    chain _ (any (need (s .waiting .marker))) (λ m _. chain _ (any (ownStr t)) (λ b _. chain _ (any (need (referenceOf m b))) (λ c _.
+    chain _ (any (need (s .waiting .marker))) (λ m _. chain _ (any (ownStr t)) (λ b _. chain _ (any (need (referenceFor (s .fixed .names) m b))) (λ c _.
     on (wrote-encoded (waiting (10 ∷ []) (5 ∷ [])) s (setMarker none s) (unmoved (turns (10 ∷ []) (5 ∷ [])) s (setMarker none s) refl refl refl refl (λ i. i) (λ i. i)) c))))
 awaited (first v) t s = on (unmoved (turns (6 ∷ []) []) s (setFirst (some v) s) refl refl refl refl (λ i. i) (λ i. i))
 

@@ -7,6 +7,7 @@ use lib.Dec.{eqb}
 use lib.ListN.{length}
 use Rattle.lent.specs.Bytes.{bytes, same}
 use Rattle.event.specs.declared.Event.{Event}
+use Rattle.character_reference.specs.declared.Names.the-variants.{Html4, Html5}
 use Rattle.machine.specs.declared.Ending.{Ending}
 use Rattle.machine.specs.declared.Options.{Options}
 use Rattle.machine.specs.Outcome.{Outcome, stop, go}
@@ -15,10 +16,14 @@ use Rattle.machine.specs.Run.{Answer, page, refused, stopped, runOf, mac
 -- ---- options
 
 abbrev pub options : (html protocol images : Bool) → Ending → Options
-options h p i e = record { «allow_dangerous_html» = h; «allow_dangerous_protocol» = p; «allow_any_img_src» = i; ending = e }
+options h p i e = record { «allow_dangerous_html» = h; «allow_dangerous_protocol» = p; «allow_any_img_src» = i; ending = e; names = Html5 }
 
 abbrev pub off : Ending → Options
 off e = options false false false e
+
+-- with the names of HTML 4.01
+abbrev pub older : Ending → Options
+older e = record { «allow_dangerous_html» = false; «allow_dangerous_protocol» = false; «allow_any_img_src» = false; ending = e; names = Html4 }
 
 abbrev pub html : Ending → Options
 html e = options true false false e

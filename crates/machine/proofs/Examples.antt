@@ -10,7 +10,7 @@ use Rattle.machine.specs.declared.Ending.the-variants.{Lf}
 use Rattle.machine.specs.Outcome.{Outcome, go}
 use Rattle.machine.specs.Run.{Answer, page, refused, runOf, machineOf}
 use Rattle.machine.proofs.Running.{running}
-use Rattle.machine.proofs.Answers.{off, enter, exit, enterWith}
+use Rattle.machine.proofs.Answers.{off, older, enter, exit, enterWith}
 
 -- ---- 01's "Proved table"
 
@@ -61,3 +61,17 @@ pub worked :
     × (runOf [] (off Lf) 0 [] ≡ page [])
 unfolding running
 worked = (refl, refl, refl, refl, refl)
+
+-- ---- the names option
+
+abbrev referring : ℕ → List Event
+referring n = enter 12 ∷ enter 7 ∷ enter 8 ∷ exit 8 0 0 ∷ enter 11 ∷ exit 11 0 n ∷ exit 7 0 n ∷ exit 12 0 n ∷ []
+
+-- lang is U+2329 in HTML 4.01 and U+27E8 in HTML5; other names are the same in both
+pub named :
+    (machineOf (bytes "lang") (older Lf) (referring 4) ≡ go (bytes "<p>" ++ (0xE2 ∷ 0x8C ∷ 0xA9 ∷ []) ++ bytes "</p>"))
+    × (machineOf (bytes "lang") (off Lf) (referring 4) ≡ go (bytes "<p>" ++ (0xE2 ∷ 0x9F ∷ 0xA8 ∷ []) ++ bytes "</p>"))
+    × (machineOf (bytes "deg") (older Lf) (referring 3) ≡ go (bytes "<p>" ++ (0xC2 ∷ 0xB0 ∷ []) ++ bytes "</p>"))
+    × (machineOf (bytes "amp") (older Lf) (referring 3) ≡ go (bytes "<p>&amp;</p>"))
+unfolding running
+named = (refl, refl, refl, refl)

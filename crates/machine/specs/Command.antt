@@ -8,7 +8,7 @@ use lib.ListN.{length, getElem?, replicate}
 use Rattle.lent.specs.Bytes.{bytes}
 use Rattle.event.specs.Event.{alignmentsOf}
 use Rattle.character_reference.specs.declared.Marker.{Marker}
-use Rattle.character_reference.specs.Reference.{referenceOf}
+use Rattle.character_reference.specs.Reference.{referenceFor}
 use Rattle.machine.specs.Outcome.{Outcome, stop, go, _>>=_, need}
 use Rattle.machine.specs.State.{State, own}
 use Rattle.machine.specs.Set.{setMedia, setTight, setLabels, Flag, setFlag, setRank, setSetext, setSeen, setFences, setMarker, setFirst, setAligns, setColumn, setDestination}
@@ -113,7 +113,7 @@ awaiting (seenData x) t s = go (setSeen x s)
 awaiting (fences x) t s = go (setFences x s)
 awaiting countFence t s = need (s .waiting .fences) >>= λ n. go (setFences (some (suc n)) s)
 awaiting (marker m) t s = go (setMarker (some m) s)
-awaiting reference t s = need (s .waiting .marker) >>= λ m. ownStr t >>= λ b. need (referenceOf m b) >>= λ c. go (pushEncoded c (setMarker none s))
+awaiting reference t s = need (s .waiting .marker) >>= λ m. ownStr t >>= λ b. need (referenceFor (s .fixed .names) m b) >>= λ c. go (pushEncoded c (setMarker none s))
 awaiting (first x) t s = go (setFirst (some x) s)
 
 -- of a table

@@ -38,7 +38,7 @@ endingOf default text (e ∷ es) =
 
 -- what the caller chose and the ending that was found, for the whole build
 abbrev pub fixedOf : Options → Ending → Fixed
-fixedOf o ending = record { ending = ending }
+fixedOf o ending = record { ending = ending; names = o .names }
 
 -- ---- the running order: definitions run in a first pass and are jumped over in the second
 

@@ -1,4 +1,5 @@
 // The definition's machine: specs/ alone matters here. These types are declared in code, so that the code can have the same ones where it needs them.
+use character_reference::Names;
 
 // What the next handlers go by.
 pub struct Flags {
@@ -27,9 +28,12 @@ pub struct Options {
     pub allow_dangerous_protocol: bool,
     pub allow_any_img_src: bool,
     pub ending: Ending,
+    pub names: Names,
 }
 
 // What does not change during a build: it is in the state, since the footnote section has no turn.
 pub struct Fixed {
     pub ending: Ending,
+    // which HTML's names a character reference has
+    pub names: Names,
 }

@@ -12,7 +12,9 @@ use Rattle.lent.specs.Bytes.{if_then_else_, between, all, isDigit}
 use Rattle.event.specs.declared.Event.{Event}
 use Rattle.event.specs.Event.{isEnter, eventAt, eventsOf}
 use Rattle.character_reference.specs.declared.Marker.{Marker}
-use Rattle.character_reference.specs.Reference.{digitValue, isDigitOf, areDigits, numberOf, referenceOf, isSome}
+use Rattle.character_reference.specs.declared.Names.{Names}
+use Rattle.character_reference.specs.Reference.{digitValue, isDigitOf, areDigits, numberOf, referenceOf, referenceFor, isSome}
+use Rattle.character_reference.proofs.Options.{by-both}
 use Rattle.check_slices.specs.Slices.{isItemValue, isUnderline}
 use Rattle.rules.specs.Elements.{Forest, nil, element, Paired}
 use Rattle.rules.specs.Rules.{Meets, Exits, Marks}
@@ -92,10 +94,10 @@ module _ (text events : List ℕ) (meets : Meets text events) (o : Options) (p :
       let s : isUnderline (textOf text (spanOf e)) ≡ true = rw (is-at text events meets p before e es h) at (slices-there text events meets p before e es h .underline (exits 18 i)) in
       first-byte (e .to .0 - e .from .0) (e .from .0) text s
 
-  pub fact-refers : e .name ≡ 11 → (m : Marker) → Marks events p m → (b : List ℕ) × (ownStr (turnAt text o p before e es) ≡ go b) × (c : List ℕ) × (referenceOf m b ≡ some c)
-  fact-refers i m k =
+  pub fact-refers : (names : Names) → e .name ≡ 11 → (m : Marker) → Marks events p m → (b : List ℕ) × (ownStr (turnAt text o p before e es) ≡ go b) × (c : List ℕ) × (referenceFor names m b ≡ some c)
+  fact-refers names i m k =
       let s : isSome (referenceOf m (textOf text (spanOf e))) ≡ true = rw (is-at text events meets p before e es h) at (slices-there text events meets p before e es h .reference (exits 11 i) m k) in
-      let r = some-there (referenceOf m (textOf text (spanOf e))) s in
+      let r = some-there (referenceFor names m (textOf text (spanOf e))) (by-both names m (textOf text (spanOf e)) ∙ s) in
       (textOf text (spanOf e), own-str text events meets p before e es h x, r .0, r .1)
 
 -- ---- the events before

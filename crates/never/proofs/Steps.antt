@@ -7,7 +7,7 @@ use Prim.Native.Nat.{ℕ, zero, suc}
 use lib.Dec.{T}
 use Rattle.lent.specs.Bytes.{if_then_else_}
 use Rattle.event.specs.declared.Event.{Event}
-use Rattle.character_reference.specs.Reference.{referenceOf}
+use Rattle.character_reference.specs.Reference.{referenceFor}
 use Rattle.normalize_identifier.specs.declared.Found.{Found}
 use Rattle.normalize_identifier.specs.declared.Found.the-variants.{At, Nothing}
 use Rattle.normalize_identifier.specs.Search.{firstSame}
@@ -50,9 +50,9 @@ module _ (t : Turn) (s u : State) where
   pub reference-done : exec reference t s ≡ go u → values u ≡ doTo (t .text) (t .event) (effectsOf reference) (values s)
   unfolding exec effectsOf
   reference-done h =
-      let a = need-goes (s .waiting .marker) (λ m. ownStr t >>= λ b. need (referenceOf m b) >>= λ c. go (pushEncoded c (setMarker none s))) _ h in
-      let b = first-goes (ownStr t) (λ b. need (referenceOf (a .0) b) >>= λ c. go (pushEncoded c (setMarker none s))) _ (a .2) in
-      let c = need-goes (referenceOf (a .0) (b .0)) (λ c. go (pushEncoded c (setMarker none s))) _ (b .2) in
+      let a = need-goes (s .waiting .marker) (λ m. ownStr t >>= λ b. need (referenceFor (s .fixed .names) m b) >>= λ c. go (pushEncoded c (setMarker none s))) _ h in
+      let b = first-goes (ownStr t) (λ b. need (referenceFor (s .fixed .names) (a .0) b) >>= λ c. go (pushEncoded c (setMarker none s))) _ (a .2) in
+      let c = need-goes (referenceFor (s .fixed .names) (a .0) (b .0)) (λ c. go (pushEncoded c (setMarker none s))) _ (b .2) in
       encoded (c .0) (setMarker none s) (values (setMarker none s)) (c .2) refl
 
   pub taken : (f : List ℕ × State → Outcome State) → (takeCapture s >>= f) ≡ go u → (v : Values) → ((r : List ℕ × State) → values (r .1) ≡ values s → f r ≡ go u → values u ≡ v) → values u ≡ v

@@ -70,7 +70,7 @@ module _ (text events : List ℕ) (meets : Meets text events) (o : Options) (p :
 
     marker-right : e .name ≡ 11 → Right reference turn s
     unfolding Right
-    marker-right i m q = fact-refers text events meets o p before e es (k .here) x i m (k .marker m q)
+    marker-right i m q = fact-refers text events meets o p before e es (k .here) x (s .fixed .names) i m (k .marker m q)
 
     last : oneOf (11 ∷ 18 ∷ 23 ∷ 26 ∷ 27 ∷ 28 ∷ 33 ∷ 45 ∷ 46 ∷ 53 ∷ 62 ∷ 63 ∷ []) (e .name) ≡ false → Right (commandOf turn) turn s
     last a = rw (exit-named (e .name) refl) (right-exit turn (e .name) (name-below text events meets p before e es (k .here)) a (fact-slices text events meets o p before e es (k .here) x) s)

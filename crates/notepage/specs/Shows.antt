@@ -6,6 +6,7 @@ use Prim.Native.Nat.{ℕ}
 use lib.ListN.{length}
 use Rattle.machine.specs.declared.Options.{Options}
 use Rattle.machine.specs.declared.Ending.the-variants.{Lf}
+use Rattle.character_reference.specs.declared.Names.the-variants.{Html5}
 use Rattle.bundle.specs.Bundle.{Meaning, says, refused}
 use Rattle.bundle.specs.Read as R
 use Rattle.bundle_parts.specs.declared.Reader.{Reader}
@@ -20,7 +21,7 @@ use Rattle.notepage.specs.declared.Shown.{Shown}
 use Rattle.notepage.specs.declared.Shown.the-variants.{Page, Refused, Unread}
 
 abbrev pub offOf : Options
-offOf = record { «allow_dangerous_html» = false; «allow_dangerous_protocol» = false; «allow_any_img_src» = false; ending = Lf }
+offOf = record { «allow_dangerous_html» = false; «allow_dangerous_protocol» = false; «allow_any_img_src» = false; ending = Lf; names = Html5 }
 
 abbrev pub shownOf : Built → Shown
 shownOf (B.Page n) = Page n

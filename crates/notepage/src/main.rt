@@ -9,6 +9,7 @@ use built::Built;
 use bundle::Answer;
 use bundle_parts::Progress;
 use bundle_parts::Reader;
+use character_reference::Names;
 use libc::STDERR_FILENO;
 use libc::STDIN_FILENO;
 use libc::STDOUT_FILENO;
@@ -195,6 +196,7 @@ fn off() -> Options
         allow_dangerous_protocol: false,
         allow_any_img_src: false,
         ending: Ending::Lf,
+        names: Names::Html5,
     }
 }
 

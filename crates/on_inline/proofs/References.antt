@@ -8,8 +8,7 @@ use native.Mathlib.Omega.{arith}
 use lib.ListN.{length}
 use Rattle.encode.specs.Encode.{encodeOf}
 use Rattle.character_reference.specs.declared.Marker.{Marker}
-use Rattle.character_reference.specs.declared.Names.the-variants.{Html5}
-use Rattle.character_reference.specs.Reference.{referenceOf}
+use Rattle.character_reference.specs.Reference.{referenceFor}
 use Rattle.event.specs.declared.Event.{Event}
 use Rattle.machine.specs.State.{State}
 use Rattle.machine.specs.Outcome.{go, _>>=_, need}
@@ -45,24 +44,24 @@ record Referred (text : List ℕ) (e : Event) (s u : State) : Type 0 where
   pub meaning : List ℕ
   pub waits : s .waiting .marker ≡ some mark
   pub slice : Sliced text e value
-  pub stands-for : referenceOf mark value ≡ some meaning
+  pub stands-for : referenceFor (s .fixed .names) mark value ≡ some meaning
   pub is : push (encodeOf (s .flags .encode) meaning) (setMarker none s) ≡ u
 
 module _ (text : List ℕ) (e : Event) where
   went : (t : Turn) (s u : State) → Sees text e t → within reference t s ≡ go u → Referred text e s u
   unfolding exec within pushEncoded
   went t s u v p =
-      let q = done true (need (s .waiting .marker) >>= λ m. ownStr t >>= λ b. need (referenceOf m b) >>= λ c. go (pushEncoded c (setMarker none s))) u p .went in
-      let f = first-goes (need (s .waiting .marker)) (λ m. ownStr t >>= λ b. need (referenceOf m b) >>= λ c. go (pushEncoded c (setMarker none s))) u q in
-      let g = first-goes (ownStr t) (λ b. need (referenceOf (f .0) b) >>= λ c. go (pushEncoded c (setMarker none s))) u (f .2) in
-      let h = first-goes (need (referenceOf (f .0) (g .0))) (λ c. go (pushEncoded c (setMarker none s))) u (g .2) in
+      let q = done true (need (s .waiting .marker) >>= λ m. ownStr t >>= λ b. need (referenceFor (s .fixed .names) m b) >>= λ c. go (pushEncoded c (setMarker none s))) u p .went in
+      let f = first-goes (need (s .waiting .marker)) (λ m. ownStr t >>= λ b. need (referenceFor (s .fixed .names) m b) >>= λ c. go (pushEncoded c (setMarker none s))) u q in
+      let g = first-goes (ownStr t) (λ b. need (referenceFor (s .fixed .names) (f .0) b) >>= λ c. go (pushEncoded c (setMarker none s))) u (f .2) in
+      let h = first-goes (need (referenceFor (s .fixed .names) (f .0) (g .0))) (λ c. go (pushEncoded c (setMarker none s))) u (g .2) in
       record {
         mark = f .0;
         value = g .0;
         meaning = h .0;
         waits = needed (s .waiting .marker) (f .0) (f .1);
         slice = own t (g .0) v (g .1);
-        stands-for = needed (referenceOf (f .0) (g .0)) (h .0) (h .1);
+        stands-for = needed (referenceFor (s .fixed .names) (f .0) (g .0)) (h .0) (h .1);
         is = (let z = h .2 in cc);
       }
 
@@ -81,14 +80,14 @@ module _ (text : List ℕ) (e : Event) where
           let z : _≡_ {A = ℕ} 0 1 = cc in absurd (omega arith);
     }
 
-    pub refers : {n : Mark} {r : Context} {y : Bool} {x : Buffers} {w′ o′ : List ℕ} (m : Marker) → MarkIs c n → n ≡ M.Is m → ForgetsMarker c r → Tells Any (is encode) c y → PushesReference Html5 m (sliceIn text e) y (r .buffers) w o x w′ o′
+    pub refers : {n : Mark} {r : Context} {y : Bool} {x : Buffers} {w′ o′ : List ℕ} (m : Marker) → MarkIs c n → n ≡ M.Is m → ForgetsMarker c r → Tells Any (is encode) c y → PushesReference (c .fixed .names) m (sliceIn text e) y (r .buffers) w o x w′ o′
         → Keeps (Sees text e) reference c w o (withBuffers x r) w′ o′
     refers {y = y} m a q f d k = record {
       keeps = λ t b s u v x p.
           let g = went t s u v p in
           let h : some m ≡ s .waiting .marker = rw q at (a .mark-is w o b s x) in
           let i : m ≡ g .mark = (let j = g .waits in cc) in
-          let n : referenceOf m (sliceIn text e) ≡ some (g .meaning) = rw (i, ← g .slice .bytes) (g .stands-for) in
+          let n : referenceFor (c .fixed .names) m (sliceIn text e) ≡ some (g .meaning) = rw (x .fixed, i, ← g .slice .bytes) (g .stands-for) in
           let l = encodeOf y (g .meaning) in
           let z : push l (setMarker none s) ≡ u = rw (← flag-told d t x) (g .is) in
           let a = f .forgets w o b s x in

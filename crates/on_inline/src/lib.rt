@@ -6,7 +6,6 @@ ghost use Rattle.machine.specs.Words.{unless, put, slice, tag, url, resumeCode}
 ghost use Rattle.machine.specs.OnText.{onExitCharacterReferenceValue, onExitRawText, onExitAutolinkEmail, onExitAutolinkProtocol};
 ghost use Rattle.context.specs.Rel.{Any, Sees, Keeps, Takes};
 ghost use Rattle.on_inline.specs.View.{SeesWith};
-use character_reference::Names;
 use context::Context;
 use context::Mark;
 use event::Event;
@@ -36,13 +35,15 @@ pub fn on_exit_character_reference_value(
     let Mark::Is(m) = x else {
         return c;
     };
+    let fixed = c.fixed;
+    let names = fixed.names;
     let mut r = context::forget_marker(c);
     let encoding = context::encodes(c);
     r.buffers = pieces::push_reference(
         r.buffers,
         captures,
         out,
-        Names::Html5,
+        names,
         m,
         &text[from..to],
         encoding,

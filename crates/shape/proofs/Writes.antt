@@ -10,7 +10,7 @@ use lib.Dec.{T, eqb, eqb→eq}
 use borrow.Author.Tests.{eq-eqb}
 use lib.ListN.{length, getElem?}
 use Rattle.lent.specs.Bytes.{bytes}
-use Rattle.character_reference.specs.Reference.{referenceOf}
+use Rattle.character_reference.specs.Reference.{referenceFor}
 use Rattle.machine.specs.Outcome.{Outcome, go, _>>=_, need}
 use Rattle.machine.specs.State.{State, Media}
 use Rattle.machine.specs.Set.{setCaptures, setSetext, setMarker}
@@ -74,10 +74,10 @@ module _ (t : Turn) (s : State) where
   pub done-reference : T (isSet (s .waiting .marker)) → Right reference t s → Done (exec reference t s) true (waiting (10 ∷ []) (5 ∷ [])) s
   unfolding exec Right
   done-reference h r =
-      done-need true (waiting (10 ∷ []) (5 ∷ [])) s (s .waiting .marker) (λ m. ownStr t >>= λ b. need (referenceOf m b) >>= λ c. go (pushEncoded c (setMarker none s))) h
+      done-need true (waiting (10 ∷ []) (5 ∷ [])) s (s .waiting .marker) (λ m. ownStr t >>= λ b. need (referenceFor (s .fixed .names) m b) >>= λ c. go (pushEncoded c (setMarker none s))) h
       (λ m e. let q = r m e in
-      done-bind true (waiting (10 ∷ []) (5 ∷ [])) s (ownStr t) (λ b. need (referenceOf m b) >>= λ c. go (pushEncoded c (setMarker none s))) (q .0) (q .1)
-      (done-bind true (waiting (10 ∷ []) (5 ∷ [])) s (need (referenceOf m (q .0))) (λ c. go (pushEncoded c (setMarker none s))) (q .2) (ap need (q .3))
+      done-bind true (waiting (10 ∷ []) (5 ∷ [])) s (ownStr t) (λ b. need (referenceFor (s .fixed .names) m b) >>= λ c. go (pushEncoded c (setMarker none s))) (q .0) (q .1)
+      (done-bind true (waiting (10 ∷ []) (5 ∷ [])) s (need (referenceFor (s .fixed .names) m (q .0))) (λ c. go (pushEncoded c (setMarker none s))) (q .2) (ap need (q .3))
       (done-encoded (waiting (10 ∷ []) (5 ∷ [])) (q .2) s (setMarker none s) (marker-none s) refl)))
 
 -- ---- captures

@@ -7,7 +7,7 @@ use Prim.Native.Nat.{ℕ, _≤_, _<_}
 use lib.ListN.{length, getElem?}
 use Rattle.event.specs.declared.Event.{Event}
 use Rattle.character_reference.specs.declared.Marker.{Marker}
-use Rattle.character_reference.specs.Reference.{referenceOf}
+use Rattle.character_reference.specs.Reference.{referenceFor}
 use Rattle.machine.specs.Outcome.{Outcome, go, _>>=_}
 use Rattle.machine.specs.State as S
 use Rattle.machine.specs.State.{State, Span, Media, Call}
@@ -94,7 +94,7 @@ Awaited (seenData v) t s = Unit {0}
 Awaited (fences v) t s = Unit {0}
 Awaited countFence t s = Unit {0}
 Awaited (marker m) t s = Unit {0}
-Awaited reference t s = (m : Marker) → s .waiting .marker ≡ some m → (b : List ℕ) × (ownStr t ≡ go b) × (c : List ℕ) × (referenceOf m b ≡ some c)
+Awaited reference t s = (m : Marker) → s .waiting .marker ≡ some m → (b : List ℕ) × (ownStr t ≡ go b) × (c : List ℕ) × (referenceFor (s .fixed .names) m b ≡ some c)
 Awaited (first v) t s = Unit {0}
 
 abbrev pub Known : Medium → Turn → State → Type 0

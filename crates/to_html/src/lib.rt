@@ -198,7 +198,8 @@ pub fn to_html(
     let mut labels = [0usize; 128];
     let default = options.ending;
     let ending = find_ending::find_ending(text, events, default);
-    let fixed = Fixed { ending };
+    let names = options.names;
+    let fixed = Fixed { ending, names };
     let b = begin(fixed);
     compile(
         b,

@@ -7,7 +7,7 @@ use Prim.Native.Nat.{ℕ, zero, suc, _-_}
 use native.Mathlib.Omega.{arith}
 use lib.ListN.{length}
 use Rattle.lent.proofs.Laws.{and-left, and-right}
-use Rattle.character_reference.specs.Reference.{referenceOf}
+use Rattle.character_reference.specs.Reference.{referenceFor}
 use Rattle.machine.specs.State.{State}
 use Rattle.machine.specs.Outcome.{Outcome, stop, go, _>>=_, need}
 use Rattle.machine.specs.Set.{setCaptures}
@@ -108,7 +108,7 @@ awaited (seenData x) t s = to s _ (record { media = refl; labels = refl; kept = 
 awaited (fences x) t s = to s _ (record { media = refl; labels = refl; kept = refl; setext = refl })
 awaited countFence t s = binds s (need (s .waiting .fences)) _ (λ n. to s _ (record { media = refl; labels = refl; kept = refl; setext = refl }))
 awaited (marker m) t s = to s _ (record { media = refl; labels = refl; kept = refl; setext = refl })
-awaited reference t s = binds s (need (s .waiting .marker)) _ (λ m. binds s (ownStr t) _ (λ b. binds s (need (referenceOf m b)) _ (λ c. to s _ (onward (record { media = refl; labels = refl; kept = refl; setext = refl }) (encoded c _)))))
+awaited reference t s = binds s (need (s .waiting .marker)) _ (λ m. binds s (ownStr t) _ (λ b. binds s (need (referenceFor (s .fixed .names) m b)) _ (λ c. to s _ (onward (record { media = refl; labels = refl; kept = refl; setext = refl }) (encoded c _)))))
 awaited (first x) t s = to s _ (record { media = refl; labels = refl; kept = refl; setext = refl })
 
 counted : (x : Column) (t : Turn) (s : State) → Leaves s (counting x t s)

@@ -22,7 +22,7 @@ pub fn grammar(words: &'static Words, count: usize, ask: &mut dyn FnMut(List, Pa
     for k in 0..count {
         let enough = if k % 200 == 0 { random.below(2_500) } else { random.below(60) };
         let list = random_list_of(words, &mut random, enough);
-        ask(list, PageOptions { bits: random.below(8) as u8, ending: random.below(3) as u8 });
+        ask(list, PageOptions { bits: random.below(8) as u8, ending: random.below(3) as u8, names: 0 });
     }
 }
 

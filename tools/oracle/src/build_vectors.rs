@@ -127,16 +127,16 @@ fn with_room(list: List, options: PageOptions, more: usize) -> Build {
     Build::new(list, options, length + more)
 }
 
-/// All names together, and some in each place that takes a reference.
+/// All names together, and some in each place that takes a reference, with both names options.
 fn references() -> Vec<Build> {
     let some = ["AElig", "amp", "lang", "lrm", "lt", "nbsp", "quot", "rang", "rlm", "thetasym", "zwj", "zwnj", "apos", "AMP", "lan"];
     let notes = some.into_iter().map(references::note).chain([references::all()]);
-    notes
-        .map(|note| {
-            let records = export(&note).expect("the parser takes it");
-            with_room(List::new(note, &records), OFF, 0)
-        })
-        .collect()
+    let both = notes.flat_map(|note| [0, 4].map(|names| (note.clone(), PageOptions { names, ..OFF })));
+    both.map(|(note, options)| {
+        let records = export(&note).expect("the parser takes it");
+        with_room(List::new(note, &records), options, 0)
+    })
+    .collect()
 }
 
 /// Three rooms that are too short.

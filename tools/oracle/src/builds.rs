@@ -44,7 +44,7 @@ const ROOMS_SEED: u64 = 20_251_122;
 pub const MOST_ROOM: usize = 524_288;
 
 pub fn options(random: &mut Random) -> PageOptions {
-    PageOptions { bits: random.below(8) as u8, ending: random.below(3) as u8 }
+    PageOptions { bits: random.below(8) as u8, ending: random.below(3) as u8, names: 0 }
 }
 
 /// The list with room for its page, just enough or some more, and every third time with less.
@@ -74,14 +74,16 @@ fn notes(ask: Ask) {
     });
 }
 
-/// Each name, and what is nearly one, in each place that takes a reference.
+/// Each name, and what is nearly one, in each place that takes a reference, with both names options; 0 says the same as 5.
 fn references(ask: Ask) {
     let mut random = Random(ROOMS_SEED);
     let notes = near().into_iter().map(|name| references::note(&name));
     for note in notes.chain([references::all()]) {
         let records = export(&note).expect("the parser takes it");
-        let options = options(&mut random);
-        with_rooms(List::new(note, &records), options, &mut random, true, ask);
+        for names in [0, 4, 5] {
+            let options = PageOptions { names, ..options(&mut random) };
+            with_rooms(List::new(note.clone(), &records), options, &mut random, false, ask);
+        }
     }
 }
 

@@ -29,7 +29,7 @@ fn notes(with: &mut dyn FnMut(String)) {
 /// The notes whose pages are compared, with options from the seed.
 pub fn page_notes(with: &mut dyn FnMut(String, PageOptions)) {
     let mut random = Random(PAGE_SEED);
-    let choose = |random: &mut Random| PageOptions { bits: random.below(8) as u8, ending: random.below(3) as u8 };
+    let choose = |random: &mut Random| PageOptions { bits: random.below(8) as u8, ending: random.below(3) as u8, names: 0 };
     page_pairs(&mut |note| with(note, choose(&mut random)));
     for _ in 0..PAGE_NOTES {
         let note = random_note_of(Words::Pages, &mut random);
@@ -209,7 +209,7 @@ pub fn cases() -> usize {
         let which = case(&note);
         let records = export(&note).filter(|_| which != Columns && which != TooLong);
         if let Some(records) = records {
-            let options = PageOptions { bits: (note.len() % 8) as u8, ending: (note.len() % 3) as u8 };
+            let options = PageOptions { bits: (note.len() % 8) as u8, ending: (note.len() % 3) as u8, names: 0 };
             let wanted = page(&note, options);
             let panicked = wanted.is_none();
             pages += 1;

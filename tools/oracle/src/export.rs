@@ -20,11 +20,12 @@ fn parse_options() -> ParseOptions {
     ParseOptions { constructs, ..ParseOptions::default() }
 }
 
-/// The options of a page, as `calls` takes them: three bits, and the default line ending's number.
-#[derive(Clone, Copy)]
+/// The options of a page, as `calls` takes them: three bits, the default line ending's number, and 4 for the names of HTML 4.01.
+#[derive(Clone, Copy, Default)]
 pub struct PageOptions {
     pub bits: u8,
     pub ending: u8,
+    pub names: u8,
 }
 
 /// These as one of the two libraries takes them.

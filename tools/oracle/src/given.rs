@@ -14,14 +14,14 @@ pub fn given(ask: Ask) {
     let mut random = Random(SEED);
     for (list, note) in lists() {
         for (bits, ending) in (0..8).flat_map(|bits| (0..3).map(move |ending| (bits, ending))) {
-            with_rooms(list.clone(), PageOptions { bits, ending }, &mut random, note, ask);
+            with_rooms(list.clone(), PageOptions { bits, ending, names: 0 }, &mut random, note, ask);
         }
     }
 }
 
 /// Each with options off and LF, and with each option or ending by which its page differs from that.
 pub fn few() -> Vec<Build> {
-    let options = |(bits, ending)| PageOptions { bits, ending };
+    let options = |(bits, ending)| PageOptions { bits, ending, names: 0 };
     let mut builds = Vec::new();
     for (list, _) in lists() {
         let plain = whole_page(&list, options((0, 0)));

@@ -76,7 +76,7 @@ fn main() {
 
 /// The two numbers as CALLS.md gives them: three bits, and 0 LF, 1 CR, 2 CR LF.
 fn page_options(bits: &str, ending: &str) -> PageOptions {
-    PageOptions { bits: bits.parse().expect("a number"), ending: ending.parse().expect("a number") }
+    PageOptions { bits: bits.parse().expect("a number"), ending: ending.parse().expect("a number"), names: 0 }
 }
 
 /// Compares the build with the crate: all families, or those named with commas between.

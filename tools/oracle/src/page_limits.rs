@@ -52,7 +52,7 @@ pub fn limits(ask: Ask) {
 /// Each kind of room, with options off and on and each ending.
 fn all_rooms(list: &List, ask: Ask) {
     for (bits, ending) in [(0, 0), (7, 1), (2, 2)] {
-        let options = PageOptions { bits, ending };
+        let options = PageOptions { bits, ending, names: 0 };
         let length = whole_page(list, options).map_or(100, |page| page.len());
         let rooms = [0, 1, length.saturating_sub(1), length, length + 1];
         let most = [MOST_ROOM].into_iter().filter(|_| bits == 0);

@@ -14,7 +14,7 @@ use Wanted::{Length, No, Page};
 /// The list, the options, the room, and what is wanted of the run. A list of these may be one that the checker refuses.
 pub type Row = (List, PageOptions, usize, Wanted);
 
-pub const OFF: PageOptions = PageOptions { bits: 0, ending: 0 };
+pub const OFF: PageOptions = PageOptions { bits: 0, ending: 0, names: 0 };
 const WIDE: usize = 65_536;
 
 /// A text of letters; its slices are told apart by their lengths alone.

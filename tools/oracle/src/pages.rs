@@ -65,7 +65,17 @@ pub fn answer_of_run(text: &[u8], records: &[Record], options: PageOptions, room
         }
     }
     let page = page.unwrap_or_else(|| panic!("the changed copy panics on {}", escaped(text)));
-    Ok(page.into_bytes())
+    Ok(if options.names == 4 { older(text, &page) } else { page }.into_bytes())
+}
+
+/// The crate's page as the names of HTML 4.01 have it. Both brackets have three bytes in both, so no total and no room differs; the
+/// text has to have them by their names alone.
+fn older(text: &[u8], page: &str) -> String {
+    let text = String::from_utf8_lossy(text).to_uppercase();
+    let otherwise = ["\u{27E8}", "\u{27E9}", "27E8", "27E9", "10216", "10217", "%E2%9F%A"];
+    assert!(!otherwise.iter().any(|source| text.contains(source)), "a bracket by another name in {text}");
+    let pairs = [("\u{27E8}", "\u{2329}"), ("\u{27E9}", "\u{232A}"), ("%E2%9F%A8", "%E2%8C%A9"), ("%E2%9F%A9", "%E2%8C%AA")];
+    pairs.into_iter().fold(page.to_string(), |page, (newer, older)| page.replace(newer, older))
 }
 
 /// The page that a list would have with room enough, where it has one.
@@ -76,7 +86,7 @@ pub fn whole_page(list: &List, options: PageOptions) -> Option<Vec<u8>> {
 impl Asked for Build {
     fn write(&self, to: &mut Vec<u8>) {
         let mut header = [0; 32];
-        (header[0], header[1], header[2]) = (7, self.options.bits, self.options.ending);
+        header[..4].copy_from_slice(&[7, self.options.bits, self.options.ending, self.options.names]);
         let fields = [self.list.text.len(), self.list.events.len(), self.room, self.work];
         for (k, field) in fields.into_iter().enumerate() {
             header[4 + 4 * k..8 + 4 * k].copy_from_slice(&(field as u32).to_le_bytes());
@@ -104,15 +114,15 @@ impl Asked for Build {
     }
 
     fn shown(&self) -> String {
-        let PageOptions { bits, ending } = self.options;
+        let PageOptions { bits, ending, names } = self.options;
         let note = if self.note { "note " } else { "" };
-        format!("options {bits} ending {ending} room {} work {} {note}{}", self.room, self.work, self.list.shown())
+        format!("options {bits} ending {ending} names {names} room {} work {} {note}{}", self.room, self.work, self.list.shown())
     }
 
     /// One step smaller: a piece of the note less, or an element, or an element's sides; then less text, options off.
     fn smaller(&self) -> Vec<Self> {
         let mut builds = if self.note { self.shorter_notes() } else { self.fewer_events() };
-        let plain = PageOptions { bits: 0, ending: 0 };
+        let plain = PageOptions { names: self.options.names, ..PageOptions::default() };
         if (self.options.bits, self.options.ending) != (0, 0) {
             builds.push(Build { options: plain, ..self.clone() });
         }
