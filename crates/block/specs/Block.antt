@@ -1,4 +1,4 @@
--- 01's block: 512 bytes, little endian, written and judged. Assumes nothing.
+-- A block (RULES R15.1): 512 bytes, little endian, written and judged. Assumes nothing.
 use mathlib.Core.Bool.{Bool, true, false, _&&_}
 use mathlib.Core.List.{List, [], _∷_, _++_}
 use Prim.Native.Nat.{ℕ, zero, suc, _+_, _-_, _*_, _/_, _%_}

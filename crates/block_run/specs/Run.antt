@@ -1,4 +1,4 @@
--- 01's run of blocks: of one kind, numbered one by one, none with more than its room; written, judged and read. Assumes nothing.
+-- A run of blocks (RULES R15.3): of one kind, numbered one by one, none with more than its room; written, judged and read. Assumes nothing.
 use mathlib.Core.List.{List, [], _++_}
 use Prim.Native.Nat.{ℕ, zero, suc, _+_, _-_, min}
 use lib.ListN.{take, drop}

@@ -82,7 +82,7 @@ module _ {text events : List ℕ} {o : Options} {out work : List ℕ} where
       let b = bytes text events o (length out) (length work) out₁ r (p .ended) ∙ sym (bytes text events o (length out) (length work) out₂ s (q .ended)) in
       (a, b, p .cleared ∙ sym (q .cleared))
 
-  -- on a note that meets 01's rules, with work bytes enough, the answer and the output are the run's, which is a page, 8 or 9
+  -- on a note that meets the rules, with work bytes enough, the answer and the output are the run's, which is a page, 8 or 9
   pub exactly : {out′ work′ : List ℕ} {r : Built} → Meets text events → 49152 ≤ length work → Builds text events o out work out′ work′ r
       → Given (runOf text o (length out) (eventsOf events))
       × (r ≡ answerOf (runOf text o (length out) (eventsOf events)))

@@ -1,4 +1,4 @@
--- The build's answers, 01's number and value for each, refusals 1 to 7, and what an answer leaves in the lent buffers. Assumes nothing.
+-- The build's answers, number and value of each (RULES R7.1), refusals 1 to 7, and what an answer leaves in the lent buffers. Assumes nothing.
 use mathlib.Core.Path.{_≡_}
 use mathlib.Core.List.{List, _++_}
 use Prim.Native.Nat.{ℕ, _-_}

@@ -1,4 +1,4 @@
-// A build's answer: 01's number for it, refusals 1 to 7, and every lent byte once the answer is known. The run is in `build`.
+// A build's answer: its number (RULES R7.1), refusals 1 to 7, and every lent byte once the answer is known. The run is in `build`.
 ghost use mathlib.Core.Path.{_≡_};
 ghost use Rattle.built.specs.Built.{numberOf, valueOf, checkedOf, Leaves};
 ghost use Rattle.built.specs.Rendered.{builtOf, keptOf};
@@ -24,7 +24,7 @@ pub enum Rendered {
 // The fewest work bytes: three regions of 16,384.
 pub const LEAST_WORK: usize = 49152;
 
-// 01's number for an answer.
+// An answer's number (RULES R7.1).
 pub fn number(b: Built) -> u32
     ensures { λ r. ⌜ r ≡ numberOf b ⌝ }
 {

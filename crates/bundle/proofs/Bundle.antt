@@ -1,4 +1,4 @@
--- What the code goes by on the whole bundle: 01's sentences one by one, and the call. Assumes nothing.
+-- What the code goes by on the whole bundle: what it is asked (RULES R15.6), one by one, and the call. Assumes nothing.
 use mathlib.Core.Path.{_≡_, refl, sym, ap, subst, _∙_}
 use mathlib.Core.Bool.{Bool, true, false, _&&_}
 use mathlib.Core.List.{List, _++_}
@@ -180,7 +180,7 @@ call-meant l t e = by (leb leastRoom t && leb leastRoom e)
     by true = refl
     by false = refl
 
--- the answer has 01's number and values for what the call means
+-- the answer has the number and the values of what the call means
 pub numbered : (m : Meaning) → Numbered m (answerOf m)
 numbered (says text events edition) = (refl, refl, refl, refl)
 numbered (refused Short) = (refl, refl)

@@ -1,4 +1,4 @@
--- The definitions run on bundles that a script packed by 01 alone. Assumes nothing.
+-- The definitions run on bundles that a script packed by the rules (RULES R15) alone. Assumes nothing.
 use mathlib.Core.Path.{_≡_, refl}
 use mathlib.Core.List.{List, [], _∷_, _++_}
 use Prim.Native.Nat.{ℕ}

@@ -1,4 +1,4 @@
--- 01's bundle: a header block, then text blocks, then event blocks, none more than needed; written, judged and read. Assumes nothing.
+-- The note bundle (RULES R15): a header block, then text blocks, then event blocks, none more than needed; written, judged and read. Assumes nothing.
 use mathlib.Core.Bool.{_&&_}
 use mathlib.Core.List.{List, _++_}
 use Prim.Native.Nat.{ℕ, _+_, _-_, _*_, _/_, _%_}
@@ -76,7 +76,7 @@ module _ (bundle : List ℕ) where
   unfoldable pub judgeEvents : Verdict
   judgeEvents = judgeRun (editionIn bundle) eventKind eventRoom (1 + textBlocks) eventBlocks eventLength eventPart
 
-  -- in 01's order
+  -- in the order of RULES R15.6
   unfoldable pub judgeBundle : Verdict
   judgeBundle = judgeLength before judgeHeader before judgeCount before judgeText before judgeEvents
 

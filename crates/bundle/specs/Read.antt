@@ -1,4 +1,4 @@
--- The call that reads a bundle: its answer, 01's numbers for it, and every byte of the two buffers afterwards. Assumes nothing.
+-- The call that reads a bundle: its answer, the answer's numbers, and every byte of the two buffers afterwards. Assumes nothing.
 use mathlib.Core.Path.{_≡_}
 use mathlib.Core.Bool.{_&&_}
 use mathlib.Core.List.{List, _++_}
@@ -66,7 +66,7 @@ abbrev pub eventBytes : Meaning → (buffer : ℕ) → List ℕ
 eventBytes (says text events edition) buffer = events ++ zeros (buffer - length events)
 eventBytes (refused r) buffer = zeros buffer
 
--- 01's number and values: two lengths in bytes and the edition, or 1, 10, 11, 12 and the block
+-- RULES R7.2: the number, and the lengths of text and events with the edition; or 1, 10, 11, 12 with the block
 abbrev pub Numbered : Meaning → Answer → Type 0
 Numbered (says text events edition) r = (numberOf r ≡ 0) × (valueOf r ≡ length text) × (eventsOf r ≡ length events) × (editionOf r ≡ edition)
 Numbered (refused Short) r = (numberOf r ≡ 1) × (valueOf r ≡ 0)

@@ -1,4 +1,4 @@
--- 01's sizes, each in one place. Assumes nothing.
+-- The sizes of RULES R8.1 and R15, each in one place. Assumes nothing.
 use mathlib.Core.Path.{_≡_}
 use mathlib.Core.Bool.{true}
 use mathlib.Core.List.{List}
@@ -19,7 +19,7 @@ mostEvents = 3200
 abbrev pub recordsPerBlock : ℕ
 recordsPerBlock = 25
 
--- the reader's text and event buffers have at least so many bytes each
+-- each of the reader's two buffers has at least so many bytes
 abbrev pub leastRoom : ℕ
 leastRoom = 64000
 

@@ -1,4 +1,4 @@
-// The note bundle, read whole: judged first, in 01's order, and copied only then.
+// The note bundle, read whole: judged first, in the order of RULES R15.6, and copied only then.
 ghost use Prim.Native.Nat.{_+_, _-_, _*_, _≤_, _<_};
 ghost use mathlib.Core.List.{_++_};
 ghost use mathlib.Core.Path.{_≡_};
@@ -61,7 +61,7 @@ pub fn read(bundle: &[u8], text: &mut [u8], events: &mut [u8]) -> Answer
     }
 }
 
-// 01's number for an answer.
+// An answer's number (RULES R7.1).
 pub fn number(a: Answer) -> u32
     ensures { λ r. ⌜ r ≡ numberOf a ⌝ }
 {

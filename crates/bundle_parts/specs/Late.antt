@@ -1,4 +1,4 @@
--- 02's reading of a bundle that comes in parts, on the joined bytes: as the whole-file reader's, but each block is judged once it has come whole, and what is wrong with the length only at the end. Assumes nothing.
+-- A bundle that comes in parts (RULES R15.10), on the joined bytes: as the whole-file reader's, but each block is judged once it has come whole, and what is wrong with the length only at the end. Assumes nothing.
 use mathlib.Core.Bool.{Bool, _&&_}
 use mathlib.Core.List.{List, []}
 use Prim.Native.Nat.{ℕ, _+_, _-_, _/_, min}

@@ -1,4 +1,4 @@
--- The call that writes a bundle: its answer, 01's numbers for it, and every byte of the buffer afterwards. Assumes nothing.
+-- The call that writes a bundle (RULES R15.8): its answer, the answer's numbers, and every byte of the buffer afterwards. Assumes nothing.
 use mathlib.Core.Path.{_≡_}
 use mathlib.Core.Bool.{Bool, not, _&&_}
 use mathlib.Core.List.{List, _++_}
@@ -24,7 +24,7 @@ valueOf (Length n) = n
 valueOf WrongLength = 0
 valueOf NoRoom = 0
 
--- text and events of so many bytes are within 01's sizes, and the events are whole records
+-- text and events of so many bytes are within the sizes of RULES R8.1, and the events are whole records
 abbrev pub rightLengths : (text events : ℕ) → Bool
 rightLengths text events = leb text mostText && leb events (recordSize * mostEvents) && eqb (events % recordSize) 0
 

@@ -44,7 +44,7 @@ pub fn write(text: &[u8], events: &[u8], edition: u32, out: &mut [u8]) -> Packed
     Packed::Length(length)
 }
 
-// 01's number for an answer.
+// An answer's number (RULES R7.1).
 pub fn number(p: Packed) -> u32
     ensures { λ r. ⌜ r ≡ numberOf p ⌝ }
 {

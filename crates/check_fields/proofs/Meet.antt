@@ -1,4 +1,4 @@
--- What `fieldsHold` decides: 01's rules, as facts. Assumes nothing.
+-- What `fieldsHold` decides: the rules of RULES R4, as facts. Assumes nothing.
 use mathlib.Core.Path.{_≡_, refl, sym, _∙_}
 use mathlib.Core.Bool.{Bool, true, false, not, _&&_}
 use mathlib.Core.Logic.{_↔_}
@@ -181,6 +181,6 @@ module _ (e : Event) where
             let o : e .kind ≡ 1 = omega arith in
             sym (exited e text refl p refl) ∙ rw (known, exit-holds (m .exit o))
 
-    -- an event's fields hold exactly when they meet 01's rules
+    -- an event's fields hold exactly when they meet the rules
     pub meets : (fieldsHold text e ≡ true) ↔ FieldsMeet text e
     meets = (fields-meet, fields-hold)

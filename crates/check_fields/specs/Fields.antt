@@ -1,4 +1,4 @@
--- 01's rules for the fields of an event record: refusal 3, at the first event that breaks one. Assumes nothing.
+-- Refusal 3 (RULES R4): at the first event a field of which breaks its rule. Assumes nothing.
 use mathlib.Core.Bool.{Bool, not, _&&_, _||_}
 use mathlib.Core.List.{List}
 use mathlib.Core.Option.{Option, none, some}
@@ -25,7 +25,7 @@ isTable e = eqb (e .name) 57
 abbrev pub listExtra : Event → Bool
 listExtra e = leb (e .extra) 1
 
--- a column count of 1 to 24, then two bits a column from bit 8, all bits past the last column zero
+-- 1 to 24 columns, and no bit set behind the last column's two
 unfoldable pub tableExtra : Event → Bool
 tableExtra e = between 1 24 (columnsOf e) && eqb (e .extra / 2 ^ (8 + 2 * columnsOf e)) 0
 

@@ -1,4 +1,4 @@
--- 01's rules for the fields of one event, as facts: what `fieldsHold` decides. Assumes nothing.
+-- RULES R4 for one event, as facts: what `fieldsHold` decides. Assumes nothing.
 use mathlib.Core.Path.{_≡_}
 use mathlib.Core.Bool.{false}
 use mathlib.Core.List.{List}
@@ -14,14 +14,14 @@ pub record TableMeets (e : Event) : Type 0 where
   pub most : columnsOf e ≤ 24
   pub past : e .extra < 2 ^ (8 + 2 * columnsOf e)
 
--- extra is 0 except on enter of a list and of a table
+-- extra is 0, but on the enter of a list or a table
 pub record ExtraMeets (e : Event) : Type 0 where
   pub ordered : e .name ≡ 21 → e .extra ≤ 1
   pub unordered : e .name ≡ 22 → e .extra ≤ 1
   pub table : e .name ≡ 57 → TableMeets e
   pub other : (e .name ≡ 21 → ⊥) → (e .name ≡ 22 → ⊥) → (e .name ≡ 57 → ⊥) → e .extra ≡ 0
 
--- an enter has from, to, before and after zero
+-- on an enter these four are 0, and extra is as it may be
 pub record EnterMeets (e : Event) : Type 0 where
   pub from : e .from .0 ≡ 0
   pub to : e .to .0 ≡ 0
@@ -29,7 +29,7 @@ pub record EnterMeets (e : Event) : Type 0 where
   pub after : e .after ≡ 0
   pub extra : ExtraMeets e
 
--- before and after are 0 to 3 on the exit of a code chunk, else zero
+-- virtual spaces: up to 3 on each side of a code chunk, and none elsewhere
 pub record SpacesMeet (e : Event) : Type 0 where
   pub chunk : e .name ≡ 32 → (e .before ≤ 3) × (e .after ≤ 3)
   pub other : (e .name ≡ 32 → ⊥) → (e .before ≡ 0) × (e .after ≡ 0)

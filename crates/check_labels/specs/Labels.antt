@@ -1,4 +1,4 @@
--- 01's refusal 7: links, images and calls whose label no definition has. Assumes nothing.
+-- Refusal 7 (RULES R7.5): links, images and calls whose label no definition has. Assumes nothing.
 use mathlib.Core.Bool.{Bool, true, not, _&&_}
 use mathlib.Core.List.{List, [], _∷_}
 use Prim.Native.Nat.{ℕ, _+_, _-_}
@@ -21,7 +21,7 @@ slice text from to = take (to - from) (drop from text)
 
 -- ---- definitions
 
--- an exit holds its element's slice: that of the exit of an n
+-- the slice that the exit of an n has
 unfoldable pub labelOf : ℕ → Event → Part
 labelOf n e =
     if isEnter e then Nothing

@@ -1,4 +1,4 @@
--- 01's counts, refusal 6: at most 128 definitions and 64 footnote definitions. Assumes nothing.
+-- Refusal 6 (RULES R7.4): at most 128 definitions and 64 footnote definitions. Assumes nothing.
 use mathlib.Core.Bool.{Bool, true}
 use mathlib.Core.List.{List}
 use Prim.Native.Nat.{ℕ, _+_, _≤_}

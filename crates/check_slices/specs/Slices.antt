@@ -1,4 +1,4 @@
--- 01's slices, refusal 5: what the slice of an exit has to be. Assumes nothing.
+-- Refusal 5 (RULES R5): what the slice of an exit has to be. Assumes nothing.
 use mathlib.Core.Bool.{Bool, true, false, _&&_, _||_}
 use mathlib.Core.List.{List, [], _∷_}
 use Prim.Native.Nat.{ℕ, _-_}

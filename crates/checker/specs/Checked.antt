@@ -1,4 +1,4 @@
--- The checker's answer: the lowest number whose rule is broken, at its earliest event; 01's number and place for each. Assumes nothing.
+-- The checker's answer: the lowest number whose rule is broken, at its earliest event (RULES R7.3); number and place for each. Assumes nothing.
 use mathlib.Core.Path.{_≡_}
 use mathlib.Core.Bool.{Bool, not, _&&_}
 use mathlib.Core.List.{List}
@@ -26,7 +26,7 @@ use Rattle.check_labels.specs.Labels.{undefinedOf}
 use Rattle.checker.specs.declared.Checked.{Checked}
 use Rattle.checker.specs.declared.Checked.the-variants.{Yes, WrongLength, NotUtf8, Field, Nested, Slice, Count, Label}
 
--- ---- 01's number and place for each answer
+-- ---- RULES R7.1: number and place for each answer
 
 abbrev pub numberOf : Checked → ℕ
 numberOf Yes = 0
@@ -88,7 +88,7 @@ fromNesting text events = afterNesting (nestOf (tagsOf events)) (fromSlices text
 unfoldable pub fromFields : (text events : List ℕ) → Checked
 fromFields text events = afterFields (fieldsOf text events) (fromNesting text events)
 
--- text at most 64,000 bytes; events whole records, at most 3,200 of them
+-- RULES R8.1: a text of up to 64,000 bytes, and up to 3,200 events, in whole records
 abbrev pub sizesHold : (text events : List ℕ) → Bool
 sizesHold text events = leb (length text) 64000 && leb (length events) (recordSize * 3200) && eqb (length events % recordSize) 0
 
@@ -100,7 +100,7 @@ checkOf text events =
 
 -- ---- the promise
 
--- one of eight, by the first of 01's rules that is broken, in the order of their numbers; from 3 on with its event
+-- one of eight, by the first of the rules that is broken, in the order of their numbers; from 3 on with its event
 unfoldable pub choose : {A : Type 0} → (text events : List ℕ) → (sizes utf8 : A) → (field nested slice count label : ℕ → A) → (passed : A) → A
 choose text events sizes utf8 field nested slice count label passed =
     if not (sizesHold text events) then sizes

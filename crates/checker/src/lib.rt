@@ -1,4 +1,4 @@
-// The checker: whether a list of events and its text meet 01's rules, refusals 1 to 7 in the order of their numbers.
+// The checker (RULES R7.3): whether a list of events and its text meet the rules, refusals 1 to 7 in the order of their numbers.
 ghost use mathlib.Core.Path.{_≡_};
 ghost use Rattle.check_events.specs.Looked.{Passes};
 ghost use Rattle.checker.specs.Checked.{sizesHold, Checks, fromFields, fromSlices, fromCounts, fromLabels, numberOf, placeOf};
@@ -7,7 +7,7 @@ use check_slices::Slices;
 use event::Event;
 use event::EventIndex;
 
-// Yes, or why not: 01's refusals 1 to 7, with the event where there is one. Left open at the end, it is the count of events.
+// Yes, or why not: refusals 1 to 7 (RULES R7.1), with the event where there is one. Left open at the end, it is the count of events.
 pub enum Checked {
     Yes,
     WrongLength,
@@ -25,7 +25,7 @@ pub const MOST_TEXT: usize = 64000;
 // The most bytes of events: 3,200 records.
 pub const MOST_EVENTS: usize = 3200 * Event::SIZE;
 
-// The whole of 01's rules.
+// All of the rules.
 pub fn check(text: &[u8], events: &[u8]) -> Checked
     ensures { λ r. ⌜ Checks (now (text .entry)) (now (events .entry)) r ⌝ }
 {
@@ -38,7 +38,7 @@ pub fn check(text: &[u8], events: &[u8]) -> Checked
     from_fields(text, events)
 }
 
-// 01's number for an answer.
+// An answer's number (RULES R7.1).
 pub fn number(c: Checked) -> u32
     ensures { λ r. ⌜ r ≡ numberOf c ⌝ }
 {

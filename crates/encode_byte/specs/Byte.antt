@@ -6,7 +6,7 @@ use lib.Dec.{eqb}
 use Rattle.lent.specs.Bytes.{if_then_else_, bytes}
 use Rattle.utf8.specs.Utf8.{replacement}
 
--- NUL becomes U+FFFD always; with encoding on, & < > " become &amp; &lt; &gt; &quot;
+-- RULES R12.1: NUL in any case; & < > " with encoding on
 unfoldable pub encodeByte : Bool → ℕ → List ℕ
 encodeByte on b =
     if eqb b 0 then replacement

@@ -6,7 +6,7 @@ use Rattle.event.specs.declared.Event.{Event}
 use Rattle.event.specs.Little.{little, number}
 use Rattle.event.specs.Event.{eventOf, eventsOf, eventsIn, recordOf, alignmentsFrom, alignmentsOf}
 
--- exit 3 (1..2), from 01's first page
+-- exit 3 (1..2), the last event of RULES R19.2
 lineEnding : List ℕ
 lineEnding = 1 ∷ 3 ∷ 0 ∷ 0 ∷ 1 ∷ 0 ∷ 0 ∷ 0 ∷ 2 ∷ 0 ∷ 0 ∷ 0 ∷ 0 ∷ 0 ∷ 0 ∷ 0 ∷ 0 ∷ 0 ∷ 0 ∷ 0 ∷ []
 

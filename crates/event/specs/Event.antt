@@ -1,4 +1,4 @@
--- 01's event records: 20 bytes each, little endian; read, packed, and the extra field taken apart. Assumes nothing.
+-- Event records (RULES R2): 20 bytes each, little endian; read, packed, and the extra field taken apart. Assumes nothing.
 use mathlib.Core.Bool.{Bool}
 use mathlib.Core.List.{List, [], _∷_, _++_}
 use Prim.Native.Nat.{ℕ, zero, suc, _+_, _*_, _/_, _%_, _^_, _<_}
@@ -89,7 +89,7 @@ isLoose e = eqb (e .extra) 1
 abbrev pub columnsOf : Event → ℕ
 columnsOf e = e .extra % 256
 
--- then two bits a column from bit 8: 0 none, 1 left, 2 right, 3 center
+-- and two bits for each column behind it: 0 is none, 1 left, 2 right, 3 center
 abbrev pub alignmentOf : Event → (column : ℕ) → ℕ
 alignmentOf e column = e .extra / 2 ^ (8 + 2 * column) % 4
 

@@ -1,4 +1,4 @@
-// The line ending of a page: that of the first exit of a line ending or a blank one, else the default.
+// The line ending of a page (RULES R9.3): the slice of the earliest exit of one, blank or not, else the default.
 ghost use Prim.Native.Nat.{_<_, _≤_};
 ghost use mathlib.Core.Path.{_≡_};
 ghost use lib.ListN.{length};

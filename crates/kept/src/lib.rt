@@ -150,7 +150,7 @@ pub fn call_index(k: Kept, text: &[u8], from: usize, to: usize, calls: &[usize])
     }
 }
 
-// Where a label is defined: of equal definitions the first counts.
+// Where a label is defined first.
 pub fn find_definition(k: Kept, text: &[u8], from: usize, to: usize, definitions: &[usize]) -> Found
     ensures { λ r. ⌜ FindsDefinition k (now (text .entry)) from to (now (definitions .entry)) r ⌝ }
 {

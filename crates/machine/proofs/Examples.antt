@@ -1,4 +1,4 @@
--- 01's "Proved table" in one statement, and its worked examples, by computation. Assumes nothing.
+-- The table of RULES R19.1 in one statement, and the examples of RULES R19.2, by computation. Assumes nothing.
 use mathlib.Core.Path.{_≡_, refl}
 use mathlib.Core.List.{List, [], _∷_, _++_}
 use Prim.Native.Nat.{ℕ}
@@ -12,7 +12,7 @@ use Rattle.machine.specs.Run.{Answer, page, refused, runOf, machineOf}
 use Rattle.machine.proofs.Running.{running}
 use Rattle.machine.proofs.Answers.{off, older, enter, exit, enterWith}
 
--- ---- 01's "Proved table"
+-- ---- RULES R19.1
 
 -- a paragraph of code text, and a table of one cell that holds some: n bytes each
 abbrev codeText : ℕ → List Event

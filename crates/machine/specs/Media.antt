@@ -70,7 +70,7 @@ abbrev pub definedAt : Found → Outcome Destination
 definedAt (At k) = go (defined k)
 definedAt Nothing = stop
 
--- its own, a definition's, or none: of equal definitions the first counts
+-- RULES R9.9: its own, that of the first definition of its label, or none
 abbrev pub destinationOf : List Definition → Destination → Option (List ℕ) → Outcome Destination
 destinationOf ds noDestination (some b) = definedAt (firstSame (definitionLabels ds) b)
 destinationOf ds noDestination none = go noDestination

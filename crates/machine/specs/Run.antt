@@ -19,7 +19,7 @@ use Rattle.machine.specs.Test.{isEmpty}
 use Rattle.machine.specs.Handlers.{handle}
 use Rattle.machine.specs.Totals.{over}
 
--- ---- the line ending: that of the first exit of 3 or 4 anywhere, else the default
+-- ---- RULES R9.3: the line ending, which the earliest exit of a 3 or 4 has, wherever it is; else the default
 
 abbrev pub parseEnding : List ℕ → Outcome Ending
 parseEnding b =
@@ -40,7 +40,7 @@ endingOf default text (e ∷ es) =
 abbrev pub fixedOf : Options → Ending → Fixed
 fixedOf o ending = record { ending = ending; names = o .names }
 
--- ---- the running order: definitions run in a first pass and are jumped over in the second
+-- ---- RULES R9.2: a pass over the definitions alone, then one over all other events
 
 -- the turns of the pass over definitions, or of the other, from the event at a place on; inside a definition are its enter and exit too
 unfoldable pub passFrom : (definitions : Bool) → (text : List ℕ) → Options → (inside : Bool) → (place : ℕ) → (before : List Event) → List Event → List Turn

@@ -25,7 +25,7 @@ abbrev pub footnoteAt : List Footnote → Found → Outcome Footnote
 footnoteAt fs (At k) = need (getElem? fs k)
 footnoteAt fs Nothing = stop
 
--- of equal footnotes the first to end
+-- RULES R6.4: of those with one identity the one that ended first
 abbrev pub bodyOf : List ℕ → List Footnote → Outcome (List ℕ)
 bodyOf label fs = footnoteAt fs (firstSame (footnoteLabels fs) label) >>= λ f. go (f .body)
 

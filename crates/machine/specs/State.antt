@@ -12,7 +12,7 @@ pub record Span : Type 0 where
   pub from : ℕ
   pub to : ℕ
 
--- a link's destination is its own, that of the definition at an index, or none
+-- where a link leads: nowhere, to what it says itself, or to the definition at an index
 pub data Destination : Type 0 where
   noDestination : Destination
   own : List ℕ → Destination

@@ -1,4 +1,4 @@
--- The three totals of 01's Sizes, as functions of the state, and when they or the page are too large. Assumes nothing.
+-- The three totals of RULES R8.3, as functions of the state, and when they or the page are too large. Assumes nothing.
 use mathlib.Core.Bool.{_||_}
 use mathlib.Core.List.{List, [], _∷_}
 use mathlib.Core.Option.{Option, none, some}
@@ -29,19 +29,19 @@ abbrev pub footnoteSizes : List Footnote → ℕ
 footnoteSizes [] = 0
 footnoteSizes (f ∷ fs) = length (f .body) + footnoteSizes fs
 
--- all open buffers above the page
+-- every open buffer but the page
 unfoldable pub captured : State → ℕ
 captured s = sizes (s .captures)
 
--- label, destination and title of open media and a waiting setext text
+-- what open media hold of their own, and a setext text that waits
 unfoldable pub held : State → ℕ
 held s = size (s .waiting .setext) + mediaSizes (s .media)
 
--- definition destinations and titles, footnote bodies
+-- of definitions destination and title, of footnotes the body
 unfoldable pub kept : State → ℕ
 kept s = definitionSizes (s .kept .definitions) + footnoteSizes (s .kept .footnotes)
 
--- 8: a work total passes 16,384; 9: the page is longer than the output, of room bytes
+-- 8: a total is over 16,384; 9: the page has more than room bytes
 unfoldable pub over : (room : ℕ) → State → Option ℕ
 over room s =
     if ltb 16384 (captured s) || ltb 16384 (held s) || ltb 16384 (kept s) then some 8

@@ -66,7 +66,7 @@ isAfterDefinition [] = false
 isAfterDefinition (e ∷ []) = false
 isAfterDefinition (e ∷ d ∷ ds) = named (53 ∷ 63 ∷ []) d
 
--- Before </li> the look back skips whole elements named 1, 2, 3, 4, 53, 63. In d elements that are being skipped: whether it ends here,
+-- RULES R9.8: before </li> whole elements of six names are passed over. In d elements that are being skipped: whether it ends here,
 abbrev pub endsAt : (d : ℕ) → Event → Bool
 endsAt d e = eqb d 0 && not (isExit e && named (1 ∷ 2 ∷ 3 ∷ 4 ∷ 53 ∷ 63 ∷ []) e)
 

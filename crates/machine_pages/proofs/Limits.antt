@@ -1,4 +1,4 @@
--- Refusals 8 and 9 with their places, and what just fits. The answers are read off 01 (Sizes, Numbers returned) by hand. Assumes nothing.
+-- Refusals 8 and 9 with their places, and what just fits. The answers are read off RULES R7.6 and R8.3 by hand. Assumes nothing.
 use mathlib.Core.Bool.{Bool, _&&_}
 use mathlib.Core.List.{List, [], _∷_, _++_}
 use Prim.Native.Nat.{ℕ, _+_}
@@ -160,7 +160,7 @@ order :
 unfolding running heading definition
 order = tt
 
--- in the footnote section the place is the event count: the crate's page for this list has 133 bytes before the section, 414 with it
+-- in the footnote section the number of events is the place: the crate's page for this list has 133 bytes before the section, 414 with it
 called : List Event
 called = element 12 (element 62 (element 47 (element 48 (data-of 1)))) ++ footnote []
 

@@ -1,4 +1,4 @@
--- 01's rules of nesting: what each element holds, in order. Assumes nothing.
+-- What each element holds, in order (RULES R3.4). Assumes nothing.
 use mathlib.Core.List.{List, [], _∷_}
 use Prim.Native.Nat.{ℕ, _+_, _-_}
 use lib.Dec.{ltb}

@@ -1,4 +1,4 @@
--- What it means that a list nests: it is the events of a forest whose elements hold what 01's rules let them hold. Assumes nothing.
+-- What it means that a list nests (RULES R3): it is the events of a forest whose elements hold what they may. Assumes nothing.
 use mathlib.Core.Path.{_≡_}
 use mathlib.Core.Bool.{true}
 use mathlib.Core.List.{List, [], _∷_, _++_}
@@ -40,7 +40,7 @@ pub data Takes : List Item → List ℕ → Type 0 where
 -- the children that a forest gives its parent are of the kinds ks, and hold what these may hold
 pub data Children : List ℕ → Forest → Type 0 where
   none : Children [] nil
-  -- what 0, 1 and 2 hold is judged as if held by the nearest other parent
+  -- RULES R3.2: what a 0, 1 or 2 holds counts as a child of the next parent around it
   through : {n : ℕ} {ks ls : List ℕ} {cs f : Forest} → n ≤ 2 → Children ks cs → Children ls f → Children (ks ++ ls) (tree n cs f)
   -- 3 and 4 may stand anywhere and hold nothing
   empty : {n : ℕ} {ls : List ℕ} {f : Forest} → 3 ≤ n → n ≤ 4 → Children ls f → Children ls (tree n nil f)

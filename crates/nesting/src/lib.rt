@@ -1,4 +1,4 @@
-// The steps for 4, which a walk over the events takes: whether a list nests by 01's rules, or the event at which it does not.
+// The steps for 4, which a walk over the events takes: whether a list nests (RULES R3), or the event at which it does not.
 ghost use mathlib.Core.Path.{_≡_};
 ghost use Prim.Native.Nat.{_-_, _≤_, _<_};
 ghost use lib.ListN.{length, getD};
@@ -76,7 +76,7 @@ pub fn tables() -> Lookup
     }
 }
 
-// 0 to 4 may stand anywhere but in 3 and 4, where the state is 0.
+// 0 to 4 are allowed at every place but inside a 3 or 4, where the state is 0.
 fn enter(states: &[u8], entries: &[u8], here: u8, name: u8) -> Entry
     requires { ⌜ Tables (now states) (now entries) ⌝ }
     requires { ⌜ here < 48 ⌝ }

@@ -1,4 +1,4 @@
--- Identities as 01's rule has them, computed. Assumes nothing.
+-- Identities as RULES R6.1 has them, computed. Assumes nothing.
 use mathlib.Core.Path.{_≡_, refl}
 use mathlib.Core.List.{[], _∷_}
 use Rattle.lent.specs.Bytes.{bytes}

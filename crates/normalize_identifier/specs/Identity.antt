@@ -1,4 +1,4 @@
--- Label identity: runs of tab, LF, CR and space become one space, ends trimmed, ASCII letters upper-cased, other characters kept. Assumes nothing.
+-- Label identity (RULES R6.1): one space for each run of blanks and none at the ends, ASCII letters as capitals, all else as it stands. Assumes nothing.
 use mathlib.Core.Path.{_≡_}
 use mathlib.Core.Bool.{Bool, true, false}
 use mathlib.Core.List.{List, [], _∷_}

@@ -31,7 +31,7 @@ pub fn sanitize(url: &[u8], out: &mut [u8]) -> Written
     texts::sanitize(url, out)
 }
 
-// The same for a link: a URL with another scheme than 01's six becomes empty.
+// The same for a link: a URL with another scheme than the six of RULES R11.5 becomes empty.
 pub fn sanitize_link(url: &[u8], out: &mut [u8]) -> Written
     ensures { λ r. ⌜ Wrote (now (url .entry)) (sanitizeWithProtocolsOf linkSchemes (now (url .entry))) (now (out .entry)) (now (out .exit)) r ⌝ }
 {
@@ -52,7 +52,7 @@ pub fn identity(label: &[u8], out: &mut [u8]) -> Written
     texts::identity(label, out)
 }
 
-// Whether a text and its events meet 01's rules.
+// Whether a text and its events meet the rules: RULES R7, refusals 1 to 7.
 pub fn check(text: &[u8], events: &[u8]) -> checker::Checked
     ensures { λ r. ⌜ Checks (now (text .entry)) (now (events .entry)) r ⌝ }
 {
@@ -115,7 +115,7 @@ pub fn bundle_so_far(reader: Reader) -> Progress
     bundle_parts::so_far(reader)
 }
 
-// 01's number for an answer.
+// An answer's number (RULES R7.1).
 pub fn number(w: Written) -> u32
     ensures { λ r. ⌜ r ≡ numberOf w ⌝ }
 {

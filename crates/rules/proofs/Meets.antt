@@ -1,4 +1,4 @@
--- The checker says yes exactly when 01's rules are met; else the lowest number, and its first event. Assumes nothing.
+-- The checker says yes exactly when the rules are met; else the lowest number, and its first event. Assumes nothing.
 use mathlib.Core.Path.{_≡_, refl, sym, ap, _∙_}
 use mathlib.Core.Bool.{Bool, true, false, not, _&&_}
 use mathlib.Core.Logic.{_↔_}

@@ -38,7 +38,7 @@ pub record ElementAt (es : List Event) (k : ℕ) (enter : Event) (inside : Fores
   pub pair : Pair enter exit
   pub paired : Paired inside
 
--- the slice of its first child named n: what 0, 1 and 2 hold is as if held by the nearest other parent, and 3 and 4 hold nothing
+-- the slice of its first child named n: RULES R3.2 says whose children those in a 0, 1 or 2 are, and 3 and 4 are empty
 abbrev pub childOf : ℕ → Forest → Part
 childOf n nil = Nothing
 childOf n (element a f z g) =

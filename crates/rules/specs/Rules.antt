@@ -1,4 +1,4 @@
--- 01's rules for a text and its events, as a reader has them: facts about events, their places and elements, and no pass. Assumes nothing.
+-- The rules for a text and its events (RULES R3 to R8), as a reader has them: facts about events, their places and elements, and no pass. Assumes nothing.
 use mathlib.Core.Path.{_≡_}
 use mathlib.Core.Bool.{Bool, true, false, _||_}
 use mathlib.Core.List.{List, [], _∷_, _++_}
@@ -22,7 +22,7 @@ use Rattle.checker.specs.declared.Checked.{Checked}
 use Rattle.checker.specs.declared.Checked.the-variants.{Yes, WrongLength, NotUtf8, Field, Nested, Slice, Count, Label}
 use Rattle.checker.specs.Checked.{event}
 
--- 1: text at most 64,000 bytes; events whole records, at most 3,200 of them
+-- 1: a text of up to 64,000 bytes, and up to 3,200 events, in whole records
 pub record SizesMeet (text events : List ℕ) : Type 0 where
   pub short : length text ≤ 64000
   pub whole : length events % recordSize ≡ 0
@@ -60,7 +60,7 @@ module _ (events : List ℕ) where
   FirstSequence k = (j : ℕ) → j < k → Exits 14 (eventAt events j) → (a : ℕ) × (j < a) × (a < k) × Enters 13 (eventAt events a)
 
   module _ (text : List ℕ) where
-    -- an exit holds its element's slice
+    -- the slice of an event
     abbrev pub sliceAt : ℕ → List ℕ
     sliceAt k = let e = eventAt events k in part text (e .from .0) (e .to .0)
 

@@ -1,4 +1,4 @@
--- A forest of events whose elements hold what 01's rules let them hold. Assumes nothing.
+-- A forest of events whose elements hold what RULES R3 lets them hold. Assumes nothing.
 use mathlib.Core.Path.{_≡_}
 use mathlib.Core.Bool.{Bool}
 use mathlib.Core.List.{List, [], _∷_, _++_}
@@ -12,7 +12,7 @@ use Rattle.rules.specs.Elements.{Forest, nil, element, Pair}
 -- the children that a forest gives its parent are of these kinds: `Children` of crate nesting, over events
 pub data Kinds : List ℕ → Forest → Type 0 where
   none : Kinds [] nil
-  -- 0 to 4 may stand anywhere; 3 and 4 hold nothing
+  -- 0 to 4 are allowed at every place; 3 and 4 are empty
   through : {a z : Event} {ks ls : List ℕ} {f g : Forest} → a .name ≤ 4 → Pair a z → Kinds ks f → Kinds ls g → Kinds (ks ++ ls) (element a f z g)
   child : {a z : Event} {k : ℕ} {ks ls : List ℕ} {f g : Forest} → a .name ≡ nameOf k → 5 ≤ nameOf k → Pair a z → Takes (holds k) ks → Kinds ks f → Kinds ls g → Kinds (k ∷ ls) (element a f z g)
 

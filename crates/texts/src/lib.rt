@@ -32,7 +32,7 @@ pub fn sanitize(url: &[u8], out: &mut [u8]) -> Written
     write(Job::Sanitize, url, out)
 }
 
-// The same for a link: a URL with another scheme than 01's six becomes empty.
+// The same for a link: a URL with another scheme than the six of RULES R11.5 becomes empty.
 pub fn sanitize_link(url: &[u8], out: &mut [u8]) -> Written
     ensures { λ r. ⌜ Wrote (now (url .entry)) (sanitizeWithProtocolsOf linkSchemes (now (url .entry))) (now (out .entry)) (now (out .exit)) r ⌝ }
 {

@@ -5,7 +5,7 @@ use Prim.Native.Nat.{ℕ, _+_, _/_, _%_}
 use lib.Dec.{eqb, ltb}
 use Rattle.lent.specs.Bytes.{if_then_else_, between, isAlnum}
 
--- ! # $, & to ;, =, ? to Z, _, a to z, ~
+-- RULES R11.1: the bytes that stay as they are
 abbrev pub isKept : ℕ → Bool
 isKept b = eqb b 33 || eqb b 35 || eqb b 36 || between 38 59 b || eqb b 61 || between 63 90 b || eqb b 95 || between 97 122 b || eqb b 126
 

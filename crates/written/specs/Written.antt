@@ -1,4 +1,4 @@
--- Calls that write a text: their answers, 01's numbers for them, and every byte afterwards. Assumes nothing.
+-- Calls that write a text (RULES R7.7): their answers, the answers' numbers, and every byte afterwards. Assumes nothing.
 use mathlib.Core.Path.{_≡_}
 use mathlib.Core.Bool.{Bool, not}
 use mathlib.Core.List.{List, _++_}

@@ -16,7 +16,7 @@ pub enum Taken {
     Refused(Written),
 }
 
-// 01's number for an answer.
+// An answer's number (RULES R7.1).
 pub fn number(w: Written) -> u32
     ensures { λ r. ⌜ r ≡ numberOf w ⌝ }
 {
