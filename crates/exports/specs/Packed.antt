@@ -30,7 +30,7 @@ pub record Packs (text result d e : List ℕ) (r : ℕ) : Type 0 where
   pub wrote : Wrote text result d e answer
   pub packs : r ≡ packed answer
 
--- as `HasRead` of the bundle reader, with 01's number for the answer
+-- as `HasRead` of the bundle reader, with the number alone for the answer
 pub record HasNumber (bundle t e u f : List ℕ) (r : ℕ) : Type 0 where
   pub answer : Answer
   pub reads : Read.HasRead bundle t e u f answer

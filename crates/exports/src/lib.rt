@@ -49,7 +49,7 @@ pub extern "C" fn leaf_sanitize(url: &[u8], out: &mut [u8]) -> usize
     sanitize_uri::sanitize(url, out, 0)
 }
 
-// Whether a text and its events meet 01's rules; the answer is 01's number alone.
+// Whether a text and its events meet the rules; the answer is the number of RULES R7.1 alone.
 #[no_mangle]
 pub extern "C" fn page_check(text: &[u8], events: &[u8]) -> u32
     ensures { λ r. ⌜ r ≡ numberOf (checkOf (now (text .entry)) (now (events .entry))) ⌝ }
@@ -97,7 +97,7 @@ fn pack_number(n: u32) -> u64
     0x8000000000000000 + n as u64
 }
 
-// Reads a bundle; the answer is 01's number alone.
+// Reads a bundle; the answer is the number of RULES R7.1 alone.
 #[no_mangle]
 pub extern "C" fn leaf_read_bundle(bundle: &[u8], text: &mut [u8], events: &mut [u8]) -> u32
     ensures { λ r. ⌜ HasNumber (now (bundle .entry)) (now (text .entry)) (now (events .entry)) (now (text .exit)) (now (events .exit)) r ⌝ }
@@ -106,7 +106,7 @@ pub extern "C" fn leaf_read_bundle(bundle: &[u8], text: &mut [u8], events: &mut 
     bundle::number(answer)
 }
 
-// Reads a bundle in parts of so many bytes, then says the end; the answer is 01's number, or 255, which it never is.
+// Reads a bundle in parts of so many bytes, then says the end; the answer is its number, or 255, which it never is.
 #[no_mangle]
 pub extern "C" fn leaf_read_parts(
     bundle: &[u8],
