@@ -15,7 +15,7 @@ extern "C" {
     fn page_build(text: *const u8, n: usize, events: *const u8, m: usize, out: *mut u8, room: usize, work: *mut u8, w: usize) -> u64;
 }
 
-/// 01's number for a list: 0 is yes.
+/// The number of RULES R7.1 for a list: 0 is yes.
 fn check(text: &[u8], events: &[u8]) -> u32 {
     unsafe { page_check(text.as_ptr(), text.len(), events.as_ptr(), events.len()) }
 }

@@ -1,4 +1,4 @@
-"""The note bundle of document 01, packed."""
+"""The note bundle of RULES R15, packed."""
 import struct
 
 PAYLOAD = 500

@@ -1,4 +1,4 @@
-"""Wrong readings of 01's checker, for tools/oracle/wrong."""
+"""Wrong readings of the checker's rules, for tools/oracle/wrong."""
 JUDGE = 'check.rs'
 LINE_ENDINGS_FIRST = '''
     let slice = |r: &Record| &text[r.from as usize..r.to as usize];

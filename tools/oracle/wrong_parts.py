@@ -1,4 +1,4 @@
-"""Wrong readings of 02's item 6, a bundle read in parts, for tools/oracle/wrong."""
+"""Wrong readings of RULES R15.9 to R15.12, a bundle read in parts, for tools/oracle/wrong."""
 JUDGE = 'parts.rs'
 JOINED = 'self.bytes[..self.parts.iter().sum()].to_vec()'
 

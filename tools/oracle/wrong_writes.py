@@ -1,4 +1,4 @@
-"""Wrong readings of 02's item 2, a bundle written, for tools/oracle/wrong."""
+"""Wrong readings of RULES R15.8, a bundle written, for tools/oracle/wrong."""
 JUDGE = 'writes.rs'
 PACKED = 'let bundle = pack(text, events, edition);'
 ZEROS = 'answer.resize(24 + self.room, 0);'

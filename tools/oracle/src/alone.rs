@@ -1,4 +1,4 @@
-// The crate alone on lists that 01 passes: it must give a page, whatever list that is. Also for the crate with debug
+// The crate alone on lists that the rules pass: it must give a page, whatever list that is. Also for the crate with debug
 // assertions, to which `build debug` links this program.
 use crate::compile::{changed, compile};
 use crate::corpus::page_notes;
@@ -16,7 +16,7 @@ use std::time::Instant;
 pub const SEED: u64 = 20_251_119;
 pub const LISTS: usize = 120_000;
 
-/// Lists from 01's grammar with what matters to a page: most are short, some have up to 2,500 events and more.
+/// Lists from the grammar of RULES R3 with what matters to a page: most are short, some have up to 2,500 events and more.
 pub fn grammar(words: &'static Words, count: usize, ask: &mut dyn FnMut(List, PageOptions)) {
     let mut random = Random(SEED);
     for k in 0..count {
@@ -57,7 +57,7 @@ fn lists(name: &str, words: &'static Words) -> usize {
     refused + show(&counts)
 }
 
-/// The notes whose list 01 passes; and how often the parser panics, and the crate on the others.
+/// The notes whose list the rules pass; and how often the parser panics, and the crate on the others.
 fn notes() -> usize {
     let began = Instant::now();
     let mut counts = Counts::new();

@@ -1,4 +1,4 @@
-// Document 01's note bundle, read by itself: packing, reading, and the cases on which op 8 of `calls` is compared.
+// The note bundle of RULES R15, read by itself: packing, reading, and the cases on which op 8 of `calls` is compared.
 use crate::cases::{self, Family};
 use crate::drive::Asked;
 use crate::random::Random;
@@ -9,7 +9,7 @@ const CHECK: usize = 508;
 pub const RECORD: usize = 20;
 const SEED: u64 = 20_251_115;
 
-// ---- 01's section "Note bundle"
+// ---- RULES R15
 
 /// What the reader answers: the text, the events and the edition, or a refusal's number and place.
 #[derive(Debug, PartialEq)]
@@ -351,7 +351,7 @@ fn largest(ask: Ask) {
     }
 }
 
-/// Whole bundles of more than 01's Sizes, with room for all of it.
+/// Whole bundles of more than the sizes of RULES R8.1, with room for all of it.
 fn outside(ask: Ask) {
     let mut random = Random(SEED + 7);
     let sizes = [(64_001, 0), (64_500, 1), (64_501, 25), (66_000, 3_200), (0, 3_201), (1, 3_225), (500, 3_226)];

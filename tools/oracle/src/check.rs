@@ -1,9 +1,9 @@
-// Document 01's checker, read by itself and not from the proved code: refusals 1 to 7 of a text and its events.
+// RULES R3 to R8, read by themselves and not from the proved code: refusals 1 to 7 of a text and its events.
 use crate::judge::identity_by_01 as identity;
 use crate::record::{self, Record, ENTER, EXIT};
 use crate::references::names;
 
-/// A refusal's number and place; 0 and 0 for yes. The lowest number wins, then the earliest event.
+/// A refusal's number and place; 0 and 0 for yes. Of several the lowest, at its first event (RULES R7.3).
 pub fn check(text: &[u8], events: &[u8]) -> (u32, usize) {
     match refusal(text, events) {
         Err(refusal) => refusal,
@@ -39,7 +39,7 @@ fn refuse_first(number: u32, places: impl Iterator<Item = usize>) -> Result<(), 
     places.min().map_or(Ok(()), |place| Err((number, place)))
 }
 
-// ---- 01's names, where a rule names one
+// ---- the names of RULES R2.6, where a rule names one
 
 const LINE_ENDING: u8 = 3;
 const BLANK_LINE_ENDING: u8 = 4;
@@ -104,7 +104,7 @@ pub const FLOW: &[u8] = &[12, 13, 16, 19, 20, 21, 22, 27, 28, 35, 53, 57, 63];
 pub const INLINE: &[u8] = &[5, 6, 7, 33, 37, 39, 40, 41, 42, 43, 44, 45, 46, 62];
 pub const PLAIN: &[u8] = &[5, 6, 7];
 
-/// What an element holds, in 01's words, with `*` for any number of. The parents are those it is judged in, the nearest
+/// What an element holds (RULES R3.4), with `*` for any number of. The parents are those it is judged in, the nearest
 /// last; `nth` is how many of its name its parent has before it.
 pub fn holds(name: u8, parents: &[u8], nth: usize) -> &'static str {
     let parent = parents.last();

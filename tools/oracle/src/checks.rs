@@ -27,7 +27,7 @@ pub const FAMILIES: [(&str, fn(Ask)); 11] = [
 const GRAMMAR_SEED: u64 = 20_251_117;
 const DAMAGED_SEED: u64 = 20_251_118;
 
-/// Lists from 01's grammar, which must all be passed: most are short, some have up to 3,000 events.
+/// Lists from the grammar of RULES R3, which must all be passed: most are short, some have up to 3,000 events.
 fn grammar(ask: Ask) {
     let mut random = Random(GRAMMAR_SEED);
     for k in 0..60_000 {

@@ -1,4 +1,4 @@
-// Notes through the crate's own parser: the lists that it exports, and why 01 refuses some of them.
+// Notes through the crate's own parser: the lists that it exports, and why the rules refuse some of them.
 use crate::check::labels_at;
 use crate::compile::compile;
 use crate::drive::escaped;
@@ -160,7 +160,7 @@ fn slice_case(note: &str, exit: &Record) -> Case {
     }
 }
 
-/// The crate takes two labels for one that 01 keeps apart.
+/// The crate takes two labels for one that RULES R6 keeps apart.
 fn label_case(note: &str, records: &[Record], place: usize) -> Case {
     let (sought, defined) = labels_at(note, records, place).expect("a label is looked for");
     let same = |label: &&String| normalize_identifier(label) == normalize_identifier(&sought);

@@ -1,4 +1,4 @@
-// Lists about each limit of 01, about each rule of a slice, and lists that break several rules at once.
+// Lists about each limit of RULES R7 and R8, about each rule of a slice, and lists that break several rules at once.
 use crate::families;
 use crate::grammar::random_list;
 use crate::lists::{Ask, List};

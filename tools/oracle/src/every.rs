@@ -1,4 +1,4 @@
-// Every name as a child at every position that 01's grammar has, and every field of every name.
+// Every name as a child at every position that the grammar of RULES R3 has, and every field of every name.
 use crate::check::{after, holds};
 use crate::grammar::Maker;
 use crate::lists::{Ask, List};

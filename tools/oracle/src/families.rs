@@ -57,7 +57,7 @@ fn every(alphabet: &str, most: usize, text: &mut String, with: &mut dyn FnMut(&[
     }
 }
 
-/// The examples of document 01 and of the crate's own comments, whose answers the crate is first held to.
+/// The examples of RULES R19 and of the crate's own comments, whose answers the crate is first held to.
 fn table(ask: Ask) {
     let examples: [(u8, &str, &str); 26] = [
         (SANITIZE, "%zz", "%zz"),

@@ -1,4 +1,4 @@
-// Markdown files, cut between lines into notes within 01's sizes, as builds.
+// Markdown files, cut between lines into notes within the sizes of RULES R8.1, as builds.
 use crate::builds::{options, run, with_rooms, Ask};
 use crate::corpus::Cases;
 use crate::export::export;
@@ -40,7 +40,7 @@ fn builds(notes: &[String], ask: Ask) {
     }
 }
 
-/// Whole lines, as many as 01's sizes take, then the next ones. A line that is too long by itself is left out.
+/// Whole lines, as many as the sizes take, then the next ones. A line that is too long by itself is left out.
 fn pieces(text: &str) -> Vec<String> {
     let lines: Vec<&str> = text.split_inclusive('\n').collect();
     let mut pieces = Vec::new();

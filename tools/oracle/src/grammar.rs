@@ -1,4 +1,4 @@
-// Lists made from 01's grammar, as the judge reads it: with the least that is required, or at random.
+// Lists made from the grammar of RULES R3, as the judge reads it: with the least that is required, or at random.
 use crate::check::{self, after, first_part, holds, FLOW, INLINE};
 use crate::lists::List;
 use crate::random::Random;
@@ -16,7 +16,7 @@ const LABELS: [[&str; 2]; 8] = [
     ["z\u{1F44D}", "Z\u{1F44D}\r"],
     ["w w w", "w  W\nw"],
 ];
-/// Labels that the crate takes as 01 does: ASCII, and none with a gap inside.
+/// Labels that the crate takes as RULES R6 does: ASCII, and none with a gap inside.
 const PLAIN_LABELS: [[&str; 2]; 8] = [
     ["a", "A"],
     ["b-c", " B-C\r\n"],
@@ -77,7 +77,7 @@ pub struct Words {
 }
 /// For the checker.
 const CHECKED: Words = Words { labels: &LABELS, pieces: &PIECES, full: false };
-/// For pages, with labels of which 01 and the crate think the same, and with others.
+/// For pages, with labels of which R6 and the crate think the same, and with others.
 pub const PLAIN: Words = Words { labels: &PLAIN_LABELS, pieces: &PAGE_PIECES, full: true };
 pub const ANY: Words = Words { labels: &LABELS, pieces: &PAGE_PIECES, full: true };
 
@@ -364,7 +364,7 @@ impl Maker {
     }
 }
 
-/// A list at random that 01's rules pass, of so many events and some more.
+/// A list at random that the rules pass, of so many events and some more.
 pub fn random_list(random: &mut Random, enough: usize) -> List {
     random_list_of(&CHECKED, random, enough)
 }

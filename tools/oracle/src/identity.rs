@@ -1,4 +1,4 @@
-// Stands in the place of the crate's `util::normalize_identifier` in the library `markdown_changed`: 01's rule.
+// Stands in the place of the crate's `util::normalize_identifier` in the library `markdown_changed`: RULES R6.1.
 use alloc::string::String;
 use alloc::vec::Vec;
 

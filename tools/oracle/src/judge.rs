@@ -1,4 +1,4 @@
-// The expected answer to a request: its bytes by the crate's own functions, its refusals and buffers by document 01.
+// The expected answer to a request: its bytes by the crate's own functions, its refusals and buffers by RULES R7 and R17.
 use crate::request::{Request, ESCAPE, IDENTITY, IMAGE, LINK, SANITIZE};
 use markdown::util::encode::encode;
 use markdown::util::normalize_identifier::normalize_identifier;
@@ -43,8 +43,8 @@ pub fn answer(op: u8, options: u8, text: &[u8]) -> Result<Vec<u8>, u32> {
     Ok(answer.into_bytes())
 }
 
-/// The identity is judged by document 01. The crate's function is held to it on every label of ASCII: the two agree
-/// exactly where the crate keeps each gap. Outside ASCII it maps letters that 01 keeps, and is not asked.
+/// The identity is judged by RULES R6. The crate's function is held to it on every label of ASCII: the two agree
+/// exactly where the crate keeps each gap. Outside ASCII it maps letters that R6 keeps, and is not asked.
 fn identity(label: &str) -> String {
     let identity = identity_by_01(label);
     if label.is_ascii() {
@@ -53,7 +53,7 @@ fn identity(label: &str) -> String {
     identity
 }
 
-/// Document 01, read by itself: runs of blanks become one space, ends trimmed, ASCII letters in upper case.
+/// RULES R6.1, read by itself: a space for each run of blanks inside, none at the ends, ASCII letters in upper case.
 pub fn identity_by_01(label: &str) -> String {
     words(label).collect::<Vec<_>>().join(" ").to_ascii_uppercase()
 }

@@ -74,7 +74,7 @@ fn main() {
     }
 }
 
-/// The two numbers as CALLS.md gives them: three bits, and 0 LF, 1 CR, 2 CR LF.
+/// The two numbers as RULES R16.4 gives them: three bits, and 0 LF, 1 CR, 2 CR LF.
 fn page_options(bits: &str, ending: &str) -> PageOptions {
     PageOptions { bits: bits.parse().expect("a number"), ending: ending.parse().expect("a number"), names: 0 }
 }
@@ -87,7 +87,7 @@ fn builds(families: &str, program: &[&str]) {
     }
 }
 
-/// Compares the checker with an independent reading of document 01.
+/// Compares the checker with an independent reading of RULES R3 to R8.
 fn checks(program: &[&str]) {
     if checks::compare(program) > 0 {
         exit(1);
@@ -120,7 +120,7 @@ fn leaves(program: &[&str]) {
         drive.show();
         differences += drive.differences;
     }
-    println!("identity: {labels} labels judged by document 01, {labels_by_crate} of them by the crate too");
+    println!("identity: {labels} labels judged by RULES R6, {labels_by_crate} of them by the crate too");
     if differences > 0 {
         println!("{differences} differences");
         exit(1);

@@ -226,7 +226,7 @@ fn pairs_of(words: Words, definitions: &str, with: &mut dyn FnMut(String)) {
     }
 }
 
-/// Notes about the limits of 01: how deep, how many and how long.
+/// Notes about the limits of RULES R7 and R8: how deep, how many and how long.
 pub fn large(with: &mut dyn FnMut(String)) {
     (55..=70).for_each(|depth| with(">".repeat(depth) + "a"));
     (14..=24).for_each(|depth| with("- ".repeat(depth) + "a"));

@@ -1,4 +1,4 @@
-// Builds about the limits of 01: sizes, rooms, how deep, how many and how long; and the table by hand.
+// Builds about the limits of RULES R7 and R8: sizes, rooms, how deep, how many and how long; and the table by hand.
 use crate::builds::{Ask, MOST_ROOM};
 use crate::edges::{element, path, repeated};
 use crate::export::{export, PageOptions};

@@ -1,4 +1,4 @@
-// Answers of the build read off 01 by hand, to which the judge is held: its examples, and 8 and 9 with their places.
+// Answers of the build read off the rules by hand, to which the judge is held: its examples, and 8 and 9 with their places.
 use crate::edges::{element as with_slice, path};
 use crate::export::PageOptions;
 use crate::lists::List;
@@ -90,7 +90,7 @@ pub fn rows() -> Vec<Row> {
     groups.into_iter().flatten().collect()
 }
 
-/// 01's proved table, "run, such as".
+/// The examples of RULES R19.2.
 fn examples() -> Vec<Row> {
     let value = |to| element(21, &element(23, &element(24, &parts(&[path(&[26], 0, to), path(&[25], 0, 0)]))));
     let code = |to| element(12, &element(33, &path(&[34], 0, to)));
@@ -186,7 +186,7 @@ fn kept() -> Vec<Row> {
     ]
 }
 
-/// Definitions' pass first; and in the footnote section the place is the event count.
+/// The pass over definitions goes first; the footnote section has the number of events for its place.
 fn order() -> Vec<Row> {
     let text = letters(16_385);
     let behind = |first: Vec<Record>, length| parts(&[first, definition(length, 0)]);

@@ -1,4 +1,4 @@
-// Document 02's item 6, a bundle read in parts, read by itself, and a case for op 10 of `calls`.
+// RULES R15.9 to R15.12, a bundle read in parts, read by themselves, and a case for op 10 of `calls`.
 use crate::bundle::{self, answered, judge, word, Answer, BLOCK, PAYLOAD, RECORD};
 use crate::drive::Asked;
 

@@ -1,4 +1,4 @@
-// Lists that 01 passes and on which the crate's page may differ, by the rows of docs/DIFFERENCES.md. There the changed
+// Lists that the rules pass and on which the crate's page may differ, by the rows of docs/DIFFERENCES.md. There the changed
 // copy of the crate is the judge alone; on all others the crate itself must say the same.
 use crate::judge::identity_by_01;
 use crate::record::{Record, ENTER};
@@ -19,7 +19,7 @@ pub const ROWS: [(Row, &str); 4] = [
     (Row::LetterOutsideAscii, "a label outside ASCII"),
 ];
 
-/// The first row that a list falls under which 01 passes.
+/// The first row that a list falls under which the rules pass.
 pub fn row(text: &[u8], records: &[Record]) -> Row {
     let labels: Vec<&str> = records.iter().filter_map(|record| label(text, record)).collect();
     if label_in_label(records) {
@@ -36,7 +36,7 @@ pub fn row(text: &[u8], records: &[Record]) -> Row {
 /// The label that an exit holds.
 fn label<'a>(text: &'a [u8], record: &Record) -> Option<&'a str> {
     let names = record.kind != ENTER && matches!(record.name, 48 | 52 | 54 | 65);
-    names.then(|| std::str::from_utf8(&text[record.from as usize..record.to as usize]).expect("01 passes the slice"))
+    names.then(|| std::str::from_utf8(&text[record.from as usize..record.to as usize]).expect("a slice that passes"))
 }
 
 fn label_in_label(records: &[Record]) -> bool {

@@ -1,5 +1,5 @@
 // Stands at the end of the changed copy of the crate's to_html.rs, whose own `handle` is called `handle_event` there:
-// after each handled event it writes down the lengths that 01's Sizes and refusals 8 and 9 speak of.
+// after each handled event it writes down the lengths that RULES R8.3 and refusals 8 and 9 speak of.
 extern crate std;
 
 /// The event's place, then what was there behind it. For the footnote section the place is the count of events.

@@ -1,4 +1,4 @@
-// Document 01's event record, and the crate's names in 01's order.
+// The event record of RULES R2, and the crate's names in its order.
 
 pub const LENGTH: usize = 20;
 pub const ENTER: u8 = 0;
@@ -56,7 +56,7 @@ pub fn read(bytes: &[u8]) -> Vec<Record> {
     bytes.chunks_exact(LENGTH).map(Record::read).collect()
 }
 
-/// The names of 01, 0 to 65, as one of the two libraries has them. For 0 a name that no handler has.
+/// The names of RULES R2.6, 0 to 65, as one of the two libraries has them. For 0 a name that no handler has.
 macro_rules! names {
     ($library:ident) => {{
         use $library::event::Name::*;

@@ -1,4 +1,4 @@
-// Lists with answers written by hand from 01: the judge is held to them too.
+// Lists with answers written by hand from the rules: the judge is held to them too.
 use crate::drive::Asked;
 use crate::lists::{Ask, List};
 use crate::record::Record;
@@ -6,7 +6,7 @@ use crate::record::Record;
 /// Text, events and the answer. `+12` enters, `-12` leaves with the slice 0..0, `-12:0..1` with this slice; `+57=101`
 /// has this extra field in hexadecimal; `-32<1>2` has one virtual space before and two after.
 const TABLE: &[(&str, &str, (u32, usize))] = &[
-    // 01's own examples
+    // the examples of RULES R19.2
     ("a\n", "+12 +5 -5:0..1 -12 +3 -3:1..2", (0, 0)),
     ("", "+12", (4, 1)),
     ("", "", (0, 0)),

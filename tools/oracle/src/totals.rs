@@ -1,4 +1,4 @@
-// Builds in which data is so long that a total of 01's Sizes is passed, or just not: lists from the grammar, some of
+// Builds in which data is so long that a total of RULES R8.3 is passed, or just not: lists from the grammar, some of
 // whose slices are long, and for each of many the longest slice that passes no total and the next.
 use crate::builds::{options, with_rooms, Ask};
 use crate::export::PageOptions;

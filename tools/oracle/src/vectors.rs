@@ -165,7 +165,7 @@ fn cause(list: &List) -> (u32, Vec<u8>) {
     (number, event.copied().collect())
 }
 
-/// Each limit of 01 at, one below and one above: text, events, open at once, both kinds of definitions. Then events that
+/// Each limit of RULES R8 at, one below and one above: text, events, open at once, both kinds of definitions. Then events that
 /// are no whole records, and 6 beside 5 and 7.
 fn limit_lists() -> Vec<List> {
     let mut lists = Vec::new();

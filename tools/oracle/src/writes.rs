@@ -1,4 +1,4 @@
-// Document 02's item 2, a bundle written, read by itself, and the cases on which op 9 of `calls` is compared.
+// RULES R15.8, a bundle written, read by itself, and the cases on which op 9 of `calls` is compared.
 use crate::bundle::{self, answered, noise, pack, word, Answer, EDITIONS, RECORD};
 use crate::cases::{self, answer_length, Family};
 use crate::drive::{escaped, start, Asked};
@@ -181,7 +181,7 @@ fn random(ask: Ask) {
 pub fn fixed() -> Vec<Case> {
     let mut random = Random(SEED + 6);
     let mut cases = vec![
-        // 02's readings: no text is judged; one block and zeros behind it; 1 before 9
+        // RULES R7.8 and R15.7: no text is judged; one block and zeros behind it; 1 before 9
         exact(vec![0xFF], Vec::new(), 0),
         Case { room: 600, ..exact(Vec::new(), Vec::new(), 5) },
         Case { room: 0, ..exact(Vec::new(), vec![0; 19], 0) },
