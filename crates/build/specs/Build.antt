@@ -1,4 +1,4 @@
--- The build: what each answer says of the note, and every lent byte afterwards. Assumes nothing.
+-- The build: what each answer says of the note (RULES R7.2), and every lent byte afterwards (RULES R17). Assumes nothing.
 use mathlib.Core.Path.{_≡_}
 use mathlib.Core.List.{List, _++_}
 use Prim.Native.Nat.{ℕ, _-_}

@@ -1,4 +1,4 @@
--- The reader in parts, call by call, on all inputs: what a part and the end make of a state and the two buffers. What calls that follow each other come to is said by the joined bytes (Late, Parts). Assumes nothing.
+-- The reader in parts (RULES R15.9), call by call, on all inputs: what a part and the end make of a state and the two buffers. What calls that follow each other come to is said by the joined bytes (Late, Parts). Assumes nothing.
 use mathlib.Core.Bool.{Bool, true, false, not, _&&_, _||_}
 use mathlib.Core.List.{List, [], _∷_, _++_}
 use Prim.Native.Nat.{ℕ, min}

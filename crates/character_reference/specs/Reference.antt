@@ -1,4 +1,4 @@
--- Character references (character_reference.rs): what the value of one stands for. Assumes nothing.
+-- Character references, RULES R13 (character_reference.rs): what the value of one stands for. Assumes nothing.
 use mathlib.Core.Bool.{Bool, true, false, _&&_, _||_}
 use mathlib.Core.List.{List, [], _∷_}
 use mathlib.Core.Option.{Option, none, some}

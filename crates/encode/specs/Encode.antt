@@ -1,4 +1,4 @@
--- A text encoded for HTML (`encode.rs`), byte by byte. Assumes nothing.
+-- A text encoded for HTML, RULES R12 (`encode.rs`), byte by byte. Assumes nothing.
 use mathlib.Core.Bool.{Bool}
 use mathlib.Core.List.{List}
 use Prim.Native.Nat.{ℕ}

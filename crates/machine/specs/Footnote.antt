@@ -1,4 +1,4 @@
--- Footnotes: a body kept, a call counted and written, the section at the end. Assumes nothing.
+-- Footnotes (RULES R9.15): a body kept, a call counted and written, the section at the end. Assumes nothing.
 use mathlib.Core.Bool.{Bool, true, false, _&&_}
 use mathlib.Core.List.{List, [], _∷_, _++_}
 use mathlib.Core.Option.{Option, none, some}

@@ -1,4 +1,4 @@
--- Which handler each event goes to, by its name. Assumes nothing.
+-- Which handler each event goes to, by its name (RULES R10). Assumes nothing.
 use mathlib.Core.Bool.{Bool, true, false}
 use mathlib.Core.List.{List, [], _∷_}
 use lib.ListN.{getD}

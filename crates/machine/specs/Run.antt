@@ -1,4 +1,4 @@
--- The passes over the events, and the answer. Assumes nothing.
+-- The passes over the events, and the answer (RULES R9). Assumes nothing.
 use mathlib.Core.Bool.{Bool, true, false, not, _&&_, _||_}
 use mathlib.Core.List.{List, [], _∷_, _++_}
 use mathlib.Core.Option.{Option, none, some}

@@ -1,4 +1,4 @@
--- The footnote section (generate_footnote_section, generate_footnote_item). Assumes nothing.
+-- The footnote section, RULES R9.16 (generate_footnote_section, generate_footnote_item). Assumes nothing.
 use mathlib.Core.Bool.{Bool, true, false, _&&_}
 use mathlib.Core.List.{List, [], _∷_, _++_}
 use Prim.Native.Nat.{ℕ, zero, suc, _-_}

@@ -1,4 +1,4 @@
--- What is written of a number, a list's start, a column's alignment and code text. Assumes nothing.
+-- What is written of a number, a list's start, a column's alignment and code text (RULES R9.13, R9.14). Assumes nothing.
 use mathlib.Core.Bool.{Bool, true, false, not, _&&_}
 use mathlib.Core.List.{List, [], _∷_, _++_}
 use mathlib.Core.Option.{Option, none, some}

@@ -1,4 +1,4 @@
--- A URL percent-encoded (`normalize` of `sanitize_uri.rs`). Assumes nothing.
+-- A URL percent-encoded, RULES R11.3 (`normalize` of `sanitize_uri.rs`). Assumes nothing.
 use mathlib.Core.List.{List, [], _∷_, _++_}
 use Prim.Native.Nat.{ℕ}
 use Rattle.url_byte.specs.Byte.{stays, urlByte}

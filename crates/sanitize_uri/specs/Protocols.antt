@@ -1,4 +1,4 @@
--- URLs whose scheme must be listed (`sanitize_with_protocols`). Assumes nothing.
+-- URLs whose scheme must be listed, RULES R11.5 (`sanitize_with_protocols`). Assumes nothing.
 use mathlib.Core.Bool.{Bool, true, false}
 use mathlib.Core.List.{List, [], _∷_}
 use Prim.Native.Nat.{ℕ, _+_}

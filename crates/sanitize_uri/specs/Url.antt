@@ -1,4 +1,4 @@
--- A URL made safe for an attribute (`sanitize` of `sanitize_uri.rs`). Assumes nothing.
+-- A URL made safe for an attribute, RULES R11.4 (`sanitize` of `sanitize_uri.rs`). Assumes nothing.
 use mathlib.Core.Bool.{true}
 use mathlib.Core.List.{List}
 use Prim.Native.Nat.{ℕ}
