@@ -1,5 +1,6 @@
 // The note bundle of RULES R15, read by itself: packing, reading, and the cases on which op 8 of `calls` is compared.
 use crate::cases::{self, Family};
+pub use crate::drive::word;
 use crate::drive::Asked;
 use crate::random::Random;
 
@@ -46,10 +47,6 @@ fn check(block: &[u8]) -> u32 {
 pub fn mend(block: &mut [u8]) {
     let sum = check(block);
     block[CHECK..BLOCK].copy_from_slice(&sum.to_le_bytes());
-}
-
-pub fn word(bytes: &[u8], at: usize) -> u32 {
-    u32::from_le_bytes(bytes[at..at + 4].try_into().unwrap())
 }
 
 pub fn read(bytes: &[u8], text_room: usize, event_room: usize) -> Answer {

@@ -1,6 +1,5 @@
 // Families of requests compared with the program `calls`, byte for byte, a line for each family: the calls on bundles.
-use crate::bundle::word;
-use crate::drive::{start, told, Asked};
+use crate::drive::{start, told, word, Asked};
 use std::collections::BTreeMap;
 use std::time::Instant;
 

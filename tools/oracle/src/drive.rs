@@ -62,7 +62,7 @@ impl<'a, A: Asked> Drive<'a, A> {
         let mut rest = &came[..];
         self.asked += batch.len();
         for (k, (request, wanted)) in batch.iter().zip(&answers).enumerate() {
-            self.numbers[field(wanted, 0) as usize] += 1;
+            self.numbers[word(wanted, 0) as usize] += 1;
             let last = k + 1 == batch.len();
             if rest.starts_with(wanted) && (!last || rest.len() == wanted.len()) {
                 rest = &rest[wanted.len()..];
@@ -163,8 +163,9 @@ fn run<A: Asked>(program: &[&str], batch: &[A]) -> Vec<u8> {
     start(program, batch).finish()
 }
 
-fn field(answer: &[u8], at: usize) -> u32 {
-    u32::from_le_bytes(answer[at..at + 4].try_into().unwrap())
+/// The 32 bits at a place.
+pub fn word(bytes: &[u8], at: usize) -> u32 {
+    u32::from_le_bytes(bytes[at..at + 4].try_into().unwrap())
 }
 
 /// How long the first answer is by its own word, at most all there is.
@@ -172,14 +173,14 @@ fn answer_length(came: &[u8]) -> usize {
     if came.len() < 24 {
         return came.len();
     }
-    came.len().min(24 + field(came, 16) as usize)
+    came.len().min(24 + word(came, 16) as usize)
 }
 
 pub fn told(answer: &[u8]) -> String {
     if answer.len() < 24 {
         return format!("{} bytes, no answer", answer.len());
     }
-    let fields: Vec<u32> = (0..24).step_by(4).map(|at| field(answer, at)).collect();
+    let fields: Vec<u32> = (0..24).step_by(4).map(|at| word(answer, at)).collect();
     format!("number, value, second, edition, room, work {fields:?} output {}", escaped(&answer[24..]))
 }
 

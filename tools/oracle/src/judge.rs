@@ -8,6 +8,31 @@ const LINK_SCHEMES: [&str; 6] = ["http", "https", "irc", "ircs", "mailto", "xmpp
 const IMAGE_SCHEMES: [&str; 2] = ["http", "https"];
 const BLANKS: [char; 4] = ['\t', '\n', '\r', ' '];
 
+impl crate::drive::Asked for Request {
+    /// Adds the header of 32 bytes and the text. The fields that these calls do not take are 0.
+    fn write(&self, to: &mut Vec<u8>) {
+        let mut header = [0; 32];
+        header[0] = self.op;
+        header[1] = self.options;
+        header[4..8].copy_from_slice(&(self.text.len() as u32).to_le_bytes());
+        header[12..16].copy_from_slice(&(self.room as u32).to_le_bytes());
+        to.extend(header);
+        to.extend(&self.text);
+    }
+
+    fn expected(&self) -> Vec<u8> {
+        expected(self)
+    }
+
+    fn size(&self) -> (usize, usize) {
+        (self.text.len(), self.room)
+    }
+
+    fn shown(&self) -> String {
+        format!("op {} options {} room {} text {}", self.op, self.options, self.room, crate::drive::escaped(&self.text))
+    }
+}
+
 /// The 24 bytes of the answer, then the whole output buffer.
 pub fn expected(request: &Request) -> Vec<u8> {
     let (number, answer) = match answer(request.op, request.options, &request.text) {

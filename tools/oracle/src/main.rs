@@ -1,5 +1,6 @@
 // The crate markdown 1.0.0 as the judge: compares the proved program `calls` with it, and writes what the gate replays.
 mod alone;
+mod build_families;
 mod build_vectors;
 mod builds;
 mod bundle;
@@ -82,7 +83,7 @@ fn page_options(bits: &str, ending: &str) -> PageOptions {
 /// Compares the build with the crate: all families, or those named with commas between.
 fn builds(families: &str, program: &[&str]) {
     let named: Vec<&str> = families.split(',').filter(|&name| name != "all").collect();
-    if builds::compare(program, &named) > 0 {
+    if build_families::compare(program, &named) > 0 {
         exit(1);
     }
 }

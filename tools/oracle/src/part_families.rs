@@ -2,7 +2,7 @@
 use crate::bundle::{self, bundle, changed, damage, noise, pack, shapes, BLOCK, RECORD};
 use crate::cases::{self, Family};
 use crate::part_vectors::fixed;
-use crate::parts::{Case, Said};
+use crate::parts::{between, stepped, Case, Said};
 use crate::random::Random;
 
 type Ask<'a> = cases::Ask<'a, Case>;
@@ -28,11 +28,6 @@ const EACH: [Said; 3] = [Said::Nothing, Said::End, Said::EndAndMore];
 
 // ---- how bytes are cut
 
-/// The parts between places that never fall; between equal ones a part is empty.
-fn between(places: &[usize]) -> Vec<usize> {
-    places.windows(2).map(|pair| pair[1] - pair[0]).collect()
-}
-
 /// Up to seven parts, cut anywhere and about the borders of blocks; some are empty.
 fn some_parts(random: &mut Random, length: usize) -> Vec<usize> {
     let mut places = vec![0, length];
@@ -42,12 +37,6 @@ fn some_parts(random: &mut Random, length: usize) -> Vec<usize> {
         places.push(random.pick(&[anywhere, border]));
     }
     places.sort();
-    between(&places)
-}
-
-/// Parts of one length, the last as long as what is left.
-pub fn stepped(length: usize, step: usize) -> Vec<usize> {
-    let places: Vec<usize> = (0..length).step_by(step).chain([length]).collect();
     between(&places)
 }
 

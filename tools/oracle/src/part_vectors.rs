@@ -1,7 +1,6 @@
 // The reads in parts that the gate replays. An answer is 128,024 bytes long, unless more is wanted or a buffer is short.
 use crate::bundle::{bundle, changed, mend, BLOCK};
-use crate::part_families::stepped;
-use crate::parts::{Case, Said};
+use crate::parts::{stepped, Case, Said};
 use crate::random::Random;
 
 const SEED: u64 = 9;

@@ -143,3 +143,16 @@ impl Asked for Case {
         )
     }
 }
+
+// ---- how bytes are cut
+
+/// The parts between places that never fall; between equal ones a part is empty.
+pub fn between(places: &[usize]) -> Vec<usize> {
+    places.windows(2).map(|pair| pair[1] - pair[0]).collect()
+}
+
+/// Parts of one length, the last as long as what is left.
+pub fn stepped(length: usize, step: usize) -> Vec<usize> {
+    let places: Vec<usize> = (0..length).step_by(step).chain([length]).collect();
+    between(&places)
+}
