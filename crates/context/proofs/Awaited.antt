@@ -41,7 +41,7 @@ sees x e k =
     rw (k .is) (setting (setSeen x) (λ t s. refl)
     (λ w o b s i r.
     let v = r .waits in
-    rel-waits (omega arith) p r (record { rank = v .rank; seen = p .here ∙ e; fences = other 6 refl p ∙ v .fences; marker = other 7 refl p ∙ v .marker; first = other 8 refl p ∙ v .first })))
+    rel-waits (omega arith) (omega arith) p r (record { rank = v .rank; seen = p .here ∙ e; fences = other 6 refl p ∙ v .fences; marker = other 7 refl p ∙ v .marker; first = other 8 refl p ∙ v .first })))
 
 sets-first : {d : ℕ} {c r : Context} (x : Bool) → d ≡ answerDigit (some x) → Digit 8 d c r → Sets (first x) c r
 unfolding exec within
@@ -50,7 +50,7 @@ sets-first x e k =
     rw (k .is) (setting (setFirst (some x)) (λ t s. refl)
     (λ w o b s i r.
     let v = r .waits in
-    rel-waits (omega arith) p r (record { rank = v .rank; seen = other 5 refl p ∙ v .seen; fences = other 6 refl p ∙ v .fences; marker = other 7 refl p ∙ v .marker; first = p .here ∙ e })))
+    rel-waits (omega arith) (omega arith) p r (record { rank = v .rank; seen = other 5 refl p ∙ v .seen; fences = other 6 refl p ∙ v .fences; marker = other 7 refl p ∙ v .marker; first = p .here ∙ e })))
 
 pub first-yes : {c r : Context} {x : Bool} → x ≡ true → Digit 8 1 c r → Sets (first x) c r
 first-yes {x = x} h k = sets-first x (rw h) k
@@ -83,7 +83,7 @@ rel-marked : {d : ℕ} {c : Context} {w o b : List ℕ} {s : State} (x : Option 
 rel-marked x e k r =
     let p = k .placed in
     let v = r .waits in
-    rw (k .is) (rel-waits (omega arith) p r (record { rank = v .rank; seen = other 5 refl p ∙ v .seen; fences = other 6 refl p ∙ v .fences; marker = p .here ∙ e; first = other 8 refl p ∙ v .first }))
+    rw (k .is) (rel-waits (omega arith) (omega arith) p r (record { rank = v .rank; seen = other 5 refl p ∙ v .seen; fences = other 6 refl p ∙ v .fences; marker = p .here ∙ e; first = other 8 refl p ∙ v .first }))
 
 pub marked : {d : ℕ} {c r : Context} (m : Marker) → d ≡ markDigit (some m) → Digit 7 d c r → Sets (marker m) c r
 unfolding exec within
@@ -129,7 +129,7 @@ module _ {c : Context} {d : ℕ} (e : d ≡ digitOf 7 (c .word)) where
 
 -- ---- the rank
 
-pub ranked : {c : Context} (x : Number) → Ranks x c (record { buffers = c .buffers; word = c .word; rank = x; tight = c .tight; table = c .table; fixed = c .fixed })
+pub ranked : {c : Context} (x : Number) → Ranks x c (record { buffers = c .buffers; word = c .word; rank = x; tight = c .tight; table = c .table })
 ranked x = record {
   ranks = λ w o b s r.
       let v = r .waits in

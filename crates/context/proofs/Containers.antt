@@ -30,7 +30,7 @@ newest-is [] = refl
 newest-is (x ∷ a) = refl
 
 abbrev withTight : Tight → Context → Context
-withTight x c = record { buffers = c .buffers; word = c .word; rank = c .rank; tight = x; table = c .table; fixed = c .fixed }
+withTight x c = record { buffers = c .buffers; word = c .word; rank = c .rank; tight = x; table = c .table }
 
 module _ {c : Context} where
   pub widens : {x : Bool} {y : Tight} → More x (c .tight) y → Sets (tighten x) c (withTight y c)

@@ -15,12 +15,16 @@ use Rattle.bounded.specs.Within.{within}
 use Rattle.word.specs.Word.{digitOf, Placed}
 use Rattle.context.specs.declared.Number.{Number}
 use Rattle.context.specs.declared.Context.{Context}
-use Rattle.context.specs.Rel.{Rel, Waits, placeOf, isOn, flagsOf}
+use Rattle.context.specs.Rel.{Rel, Waits, placeOf, isOn, flagsOf, fixedIn}
 use Rattle.context.specs.Private.{withWord, Digit, SetsFlag, TellsFlag}
 use Rattle.context.proofs.Plain.{stands, setting}
 
 pub other : {k x w r : ℕ} (j : ℕ) → eqb j k ≡ false → Placed k x w r → digitOf j r ≡ digitOf j w
 other {k} j h p = p .others j (eqb-false j k h)
+
+-- what never changes stands behind all that does
+still-fixed : {k x w r : ℕ} → k < 9 → Placed k x w r → fixedIn r ≡ fixedIn w
+still-fixed h p = rw (p .others 9 (λ e. omega arith), p .others 10 (λ e. omega arith))
 
 -- ---- flags
 
@@ -56,7 +60,7 @@ sets-flag {d = d} x e k = record {
       let p = rw (← q) at (k .placed) in
       rw (k .is, ← e) (setting (setFlag f (not (eqb d 0))) (λ t s. refl)
       (λ w o b s i r.
-      record { stand = stands (r .stand) refl refl; flags = one-flag f p ∙ ap (withFlag f (not (eqb d 0))) (r .flags); waits = still-waits (low-place f) p (r .waits); tight = r .tight; table = r .table; fixed = r .fixed }));
+      record { stand = stands (r .stand) refl refl; flags = one-flag f p ∙ ap (withFlag f (not (eqb d 0))) (r .flags); waits = still-waits (low-place f) p (r .waits); tight = r .tight; table = r .table; fixed = still-fixed (omega (arith, low-place f)) p ∙ r .fixed }));
 }
 
 pub flag-on : {k : ℕ} {c r : Context} {x : Bool} → x ≡ true → Digit k 1 c r → SetsFlag k x c r
@@ -88,5 +92,5 @@ tells-flag {c = c} e = record {
 still-flags : {k x w r : ℕ} → 5 ≤ k → Placed k x w r → flagsOf r ≡ flagsOf w
 still-flags h p = rw (p .others 0 (λ e. omega arith), p .others 1 (λ e. omega arith), p .others 2 (λ e. omega arith), p .others 3 (λ e. omega arith), p .others 4 (λ e. omega arith))
 
-pub rel-waits : {k x v : ℕ} {c : Context} {w o b : List ℕ} {s : State} {a : State.Waiting} → 5 ≤ k → Placed k x (c .word) v → Rel c w o b s → Waits v (c .rank) a → Rel (withWord v c) w o b (setWaiting a s)
-rel-waits h p r a = record { stand = stands (r .stand) refl refl; flags = still-flags h p ∙ r .flags; waits = a; tight = r .tight; table = r .table; fixed = r .fixed }
+pub rel-waits : {k x v : ℕ} {c : Context} {w o b : List ℕ} {s : State} {a : State.Waiting} → 5 ≤ k → k < 9 → Placed k x (c .word) v → Rel c w o b s → Waits v (c .rank) a → Rel (withWord v c) w o b (setWaiting a s)
+rel-waits h l p r a = record { stand = stands (r .stand) refl refl; flags = still-flags h p ∙ r .flags; waits = a; tight = r .tight; table = r .table; fixed = still-fixed l p ∙ r .fixed }

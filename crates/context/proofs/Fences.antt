@@ -27,7 +27,7 @@ rel-fenced : {d : ℕ} {c : Context} {w o b : List ℕ} {s : State} (x : Option 
 rel-fenced x e k r =
     let p = k .placed in
     let v = r .waits in
-    rw (k .is) (rel-waits (omega arith) p r (record { rank = v .rank; seen = other 5 refl p ∙ v .seen; fences = p .here ∙ e; marker = other 7 refl p ∙ v .marker; first = other 8 refl p ∙ v .first }))
+    rw (k .is) (rel-waits (omega arith) (omega arith) p r (record { rank = v .rank; seen = other 5 refl p ∙ v .seen; fences = p .here ∙ e; marker = other 7 refl p ∙ v .marker; first = other 8 refl p ∙ v .first }))
 
 pub fenced : {d : ℕ} {c r : Context} (x : Option ℕ) → d ≡ fencesDigit x → Digit 6 d c r → Sets (fences x) c r
 unfolding exec within

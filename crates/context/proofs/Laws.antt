@@ -8,6 +8,7 @@ use Prim.Native.String.{String}
 use native.Mathlib.Omega.{arith}
 use lib.ListN.{length}
 use Rattle.lent.specs.Bytes.{if_then_else_, bytes}
+use Rattle.machine.specs.declared.Ending.{Ending}
 use Rattle.machine.specs.declared.Fixed.{Fixed}
 use Rattle.machine.specs.State.{State}
 use Rattle.machine.specs.Outcome.{Outcome, stop, go, _>>=_}
@@ -22,12 +23,12 @@ use Rattle.buffers.specs.Stand.{Stand, KeepsBy}
 use Rattle.bounded.specs.Within.{one, within}
 use Rattle.bounded.proofs.Bounds.{done}
 use Rattle.context.specs.declared.Context.{Context}
-use Rattle.context.specs.Rel.{Rel, Any, Keeps, Pushes, Tells}
+use Rattle.context.specs.Rel.{Rel, Any, Keeps, Pushes, Tells, endingIn}
 
 -- ---- the buffers alone
 
 abbrev pub withBuffers : Buffers → Context → Context
-withBuffers x c = record { buffers = x; word = c .word; rank = c .rank; tight = c .tight; table = c .table; fixed = c .fixed }
+withBuffers x c = record { buffers = x; word = c .word; rank = c .rank; tight = c .tight; table = c .table }
 
 -- what is not in the buffers is as it was
 pub record Elsewhere (s u : State) : Type 0 where
@@ -64,14 +65,14 @@ module _ (c : Context) (captures out : List ℕ) (x : Buffers) (captures′ out�
   pub pushing : (t : List ℕ) → Stand.Keeps (push t) (c .buffers) captures out x captures′ out′ → Pushes t c captures out (withBuffers x c) captures′ out′
   pushing t k = record { pushes = λ b s r. rel-buffers r (pushed t s) (k .keeps b s (r .stand)) }
 
-  by-ending : (f : State → State) → ((s : State) → Elsewhere s (f s)) → KeepsBy (c .fixed .ending) f (c .buffers) captures out x captures′ out′
+  by-ending : {ending : Ending} (f : State → State) → ((s : State) → Elsewhere s (f s)) → ending ≡ endingIn (c .word) → KeepsBy ending f (c .buffers) captures out x captures′ out′
       → (b : List ℕ) (s u : State) → Rel c captures out b s → one true (go (f s)) ≡ go u → Rel (withBuffers x c) captures′ out′ b u
-  by-ending f e k b s u r p = let w = done true (go (f s)) u p .went in let q : f s ≡ u = cc in rw (← q) (rel-buffers r (e s) (k .keeps b s (ap (λ (x : Fixed). x .ending) (r .fixed)) (r .stand)))
+  by-ending f e i k b s u r p = let w = done true (go (f s)) u p .went in let q : f s ≡ u = cc in rw (← q) (rel-buffers r (e s) (k .keeps b s (i ∙ ap (λ (x : Fixed). x .ending) (r .fixed)) (r .stand)))
 
-  pub ending : KeepsBy (c .fixed .ending) endLine (c .buffers) captures out x captures′ out′ → Keeps Any lineEnding c captures out (withBuffers x c) captures′ out′
+  pub ending : {ending : Ending} → ending ≡ endingIn (c .word) → KeepsBy ending endLine (c .buffers) captures out x captures′ out′ → Keeps Any lineEnding c captures out (withBuffers x c) captures′ out′
   unfolding exec within endLine
-  ending k = record { keeps = λ t b s u a r p. by-ending endLine ended k b s u r p }
+  ending i k = record { keeps = λ t b s u a r p. by-ending endLine ended i k b s u r p }
 
-  pub ending-if : KeepsBy (c .fixed .ending) endLineIfNeeded (c .buffers) captures out x captures′ out′ → Keeps Any lineEndingIfNeeded c captures out (withBuffers x c) captures′ out′
+  pub ending-if : {ending : Ending} → ending ≡ endingIn (c .word) → KeepsBy ending endLineIfNeeded (c .buffers) captures out x captures′ out′ → Keeps Any lineEndingIfNeeded c captures out (withBuffers x c) captures′ out′
   unfolding exec within endLineIfNeeded
-  ending-if k = record { keeps = λ t b s u a r p. by-ending endLineIfNeeded ended-if k b s u r p }
+  ending-if i k = record { keeps = λ t b s u a r p. by-ending endLineIfNeeded ended-if i k b s u r p }

@@ -4,6 +4,7 @@ pub mod Digits
 pub mod Containers
 pub mod Awaited
 pub mod Fences
+pub mod Constants
 pub mod Start
 pub mod Commands
 pub mod Slices

@@ -1,17 +1,18 @@
 -- What the inner functions make of the state: no part of a promise. Assumes nothing.
 use mathlib.Core.Path.{_≡_}
 use mathlib.Core.Bool.{Bool}
-use Prim.Native.Nat.{ℕ}
+use Prim.Native.Nat.{ℕ, _<_}
 use Rattle.machine.specs.Set.{Flag}
 use Rattle.machine.specs.Test.{is}
 use Rattle.machine.specs.Words.{set}
-use Rattle.word.specs.Word.{Placed}
+use Rattle.machine.specs.declared.Fixed.{Fixed}
+use Rattle.word.specs.Word.{digitOf, Placed}
 use Rattle.context.specs.declared.Context.{Context}
-use Rattle.context.specs.Rel.{Any, Sets, Tells, placeOf}
+use Rattle.context.specs.Rel.{Any, Sets, Tells, placeOf, fixedIn}
 
 -- with another word
 abbrev pub withWord : ℕ → Context → Context
-withWord x c = record { buffers = c .buffers; word = x; rank = c .rank; tight = c .tight; table = c .table; fixed = c .fixed }
+withWord x c = record { buffers = c .buffers; word = x; rank = c .rank; tight = c .tight; table = c .table }
 
 -- the flag at a place is set, or asked for
 pub record SetsFlag (place : ℕ) (x : Bool) (c r : Context) : Type 0 where
@@ -25,3 +26,8 @@ pub record Digit (place x : ℕ) (c r : Context) : Type 0 where
   pub word : ℕ
   pub placed : Placed place x (c .word) word
   pub is : r ≡ withWord word c
+
+-- the word before the first event: HTML is encoded, no answer waits, and what never changes stands there
+pub record Starts (fixed : Fixed) (word : ℕ) : Type 0 where
+  pub begins : (j : ℕ) → j < 9 → digitOf j word ≡ digitOf j 4
+  pub holds : fixedIn word ≡ fixed

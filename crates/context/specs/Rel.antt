@@ -12,10 +12,14 @@ use Rattle.event.specs.declared.Event.{Event}
 use Rattle.event.specs.Event.{named, alignmentsOf}
 use Rattle.character_reference.specs.declared.Marker.{Marker}
 use Rattle.character_reference.specs.declared.Marker.the-variants.{Named, Hexadecimal, Decimal}
+use Rattle.character_reference.specs.declared.Names.{Names}
+use Rattle.character_reference.specs.declared.Names.the-variants.{Html4, Html5}
 use Rattle.machine.specs.declared.Flags.{Flags}
 use Rattle.machine.specs.Set.{Flag, slurp, encode, raw, alt, head, setRank, setMarker}
 use Rattle.machine.specs.State as State
 use Rattle.machine.specs.State.{State, start}
+use Rattle.machine.specs.declared.Ending.{Ending}
+use Rattle.machine.specs.declared.Ending.the-variants.{Lf, Cr, CrLf}
 use Rattle.machine.specs.declared.Fixed.{Fixed}
 use Rattle.machine.specs.Outcome.{Outcome, stop, go}
 use Rattle.machine.specs.Buffers.{push}
@@ -51,7 +55,7 @@ abbrev pub markOf : Mark → Option Marker
 markOf M.Unset = none
 markOf (M.Is m) = some m
 
--- ---- the word: each flag and each answer that waits is a digit of it
+-- ---- the word: each flag, each answer that waits and each choice that a build never changes is a digit of it
 
 abbrev pub placeOf : Flag → ℕ
 placeOf slurp = 0
@@ -92,6 +96,25 @@ pub record Waits (word : ℕ) (number : Number) (a : State.Waiting) : Type 0 whe
   pub marker : digitOf 7 word ≡ markDigit (a .marker)
   pub first : digitOf 8 word ≡ answerDigit (a .first)
 
+-- and behind these, what never changes
+abbrev pub endingAt : (digit : ℕ) → Ending
+endingAt zero = Lf
+endingAt (suc zero) = Cr
+endingAt (suc (suc n)) = CrLf
+
+abbrev pub namesAt : (digit : ℕ) → Names
+namesAt zero = Html4
+namesAt (suc n) = Html5
+
+abbrev pub endingIn : (word : ℕ) → Ending
+endingIn word = endingAt (digitOf 9 word)
+
+abbrev pub namesIn : (word : ℕ) → Names
+namesIn word = namesAt (digitOf 10 word)
+
+abbrev pub fixedIn : (word : ℕ) → Fixed
+fixedIn word = record { ending = endingIn word; names = namesIn word }
+
 -- ---- the table, and all together
 
 -- in a table: the alignments that its enter's extra field holds
@@ -112,7 +135,7 @@ pub record Rel (c : Context) (captures out starts : List ℕ) (s : State) : Type
   pub waits : Waits (c .word) (c .rank) (s .waiting)
   pub tight : Tightened (c .tight) (s .tight)
   pub table : Tabled (c .table) (s .table)
-  pub fixed : c .fixed ≡ s .fixed
+  pub fixed : fixedIn (c .word) ≡ s .fixed
 
 -- ---- what a function does
 

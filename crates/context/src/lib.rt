@@ -5,11 +5,13 @@ ghost use Prim.Native.Nat.{_<_};
 ghost use Rattle.machine.specs.Set.{slurp, encode, raw, alt, head};
 ghost use Rattle.machine.specs.Test.{is, isTight, isInContainer, hasRank, hasSeenData, isFirstFence, isFencedOnce, isFenceMissing, isFirstMarker};
 ghost use Rattle.machine.specs.Words.{slice, buffer, drop, lineEnding, lineEndingIfNeeded, set, tighten, loosen, marker, forgetRank, fences, countFence, seenData, first};
-ghost use Rattle.context.specs.Rel.{Any, Sees, Keeps, Begins, Ends, Pushes, PushesTag, Begun, Sets, Tells, Ranks, MarkIs, ForgetsMarker, answerOf, answerDigit, markDigit};
-ghost use Rattle.context.specs.Private.{Digit, SetsFlag, TellsFlag};
+ghost use Rattle.context.specs.Rel.{Any, Sees, Keeps, Begins, Ends, Pushes, PushesTag, Begun, Sets, Tells, Ranks, MarkIs, ForgetsMarker, answerOf, answerDigit, markDigit, endingAt, namesAt, endingIn, namesIn, fixedIn};
+ghost use Rattle.context.specs.Private.{Digit, SetsFlag, TellsFlag, Starts};
 use buffers::Buffers;
 use character_reference::Marker;
+use character_reference::Names;
 use event::Event;
+use machine::Ending;
 use machine::Fixed;
 use tight::Tight;
 
@@ -41,14 +43,13 @@ pub struct Table {
 
 pub struct Context {
     pub buffers: Buffers,
-    // the flags and the answers that wait: a digit each
+    // the flags, the answers that wait, and what a build never changes: a digit each
     pub word: u64,
     // of an atx heading
     pub rank: Number,
     // which containers are
     pub tight: Tight,
     pub table: Table,
-    pub fixed: Fixed,
 }
 
 // ---- where each stands in the word
@@ -71,8 +72,42 @@ const MARKER: usize = 7;
 
 const FIRST: usize = 8;
 
+const ENDING: usize = 9;
+
+const NAMES: usize = 10;
+
 // HTML is encoded, and no other flag or answer is set.
 const AT_START: u64 = 4;
+
+fn ending_digit(x: Ending) -> u64
+    ensures { λ r. ⌜ (r < 4) × (endingAt r ≡ x) ⌝ }
+{
+    match x {
+        Ending::Lf => 0,
+        Ending::Cr => 1,
+        Ending::CrLf => 2,
+    }
+}
+
+fn names_digit(x: Names) -> u64
+    ensures { λ r. ⌜ (r < 4) × (namesAt r ≡ x) ⌝ }
+{
+    match x {
+        Names::Html4 => 0,
+        Names::Html5 => 1,
+    }
+}
+
+fn first_word(fixed: Fixed) -> u64
+    ensures { λ r. ⌜ Starts fixed r ⌝ }
+{
+    let ending = fixed.ending;
+    let names = fixed.names;
+    let e = ending_digit(ending);
+    let n = names_digit(names);
+    let w = word::with_digit(AT_START, ENDING, e);
+    word::with_digit(w, NAMES, n)
+}
 
 // Before the first event.
 pub fn new(fixed: Fixed) -> Context
@@ -90,14 +125,46 @@ pub fn new(fixed: Fixed) -> Context
         extra: 0,
         column: 0,
     };
+    let word = first_word(fixed);
     Context {
         buffers,
-        word: AT_START,
+        word,
         rank: Number::Unset,
         tight,
         table,
-        fixed,
     }
+}
+
+// ---- what a build never changes
+
+pub fn ending_in(c: Context) -> Ending
+    ensures { λ r. ⌜ r ≡ endingIn (c .word) ⌝ }
+{
+    let d = word::digit(c.word, ENDING);
+    if d == 0 {
+        return Ending::Lf;
+    }
+    if d == 1 {
+        return Ending::Cr;
+    }
+    Ending::CrLf
+}
+
+pub fn names_in(c: Context) -> Names
+    ensures { λ r. ⌜ r ≡ namesIn (c .word) ⌝ }
+{
+    if word::digit(c.word, NAMES) == 0 {
+        return Names::Html4;
+    }
+    Names::Html5
+}
+
+pub fn fixed_in(c: Context) -> Fixed
+    ensures { λ r. ⌜ r ≡ fixedIn (c .word) ⌝ }
+{
+    let ending = ending_in(c);
+    let names = names_in(c);
+    Fixed { ending, names }
 }
 
 // ---- writing
@@ -115,8 +182,7 @@ pub fn line_ending(c: Context, captures: &mut [u8], out: &mut [u8]) -> Context
     ensures { λ r. ⌜ Keeps Any lineEnding c (now (captures .entry)) (now (out .entry)) r (now (captures .exit)) (now (out .exit)) ⌝ }
 {
     let mut r = c;
-    let fixed = c.fixed;
-    let ending = fixed.ending;
+    let ending = ending_in(c);
     r.buffers = buffers::line_ending_by(c.buffers, true, ending, captures, out);
     r
 }
@@ -125,8 +191,7 @@ pub fn line_ending_if_needed(c: Context, captures: &mut [u8], out: &mut [u8]) ->
     ensures { λ r. ⌜ Keeps Any lineEndingIfNeeded c (now (captures .entry)) (now (out .entry)) r (now (captures .exit)) (now (out .exit)) ⌝ }
 {
     let mut r = c;
-    let fixed = c.fixed;
-    let ending = fixed.ending;
+    let ending = ending_in(c);
     r.buffers = buffers::line_ending_by(c.buffers, false, ending, captures, out);
     r
 }
@@ -313,14 +378,12 @@ pub fn with_rank(c: Context, x: Number) -> Context
     let word = c.word;
     let tight = c.tight;
     let table = c.table;
-    let fixed = c.fixed;
     Context {
         buffers,
         word,
         rank: x,
         tight,
         table,
-        fixed,
     }
 }
 

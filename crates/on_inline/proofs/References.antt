@@ -1,5 +1,5 @@
 -- What a character reference stands for, by the marker that waits. Assumes nothing.
-use mathlib.Core.Path.{_≡_}
+use mathlib.Core.Path.{_≡_, ap}
 use mathlib.Core.Bool.{Bool, true}
 use mathlib.Core.List.{List}
 use mathlib.Core.Option.{Option, none, some}
@@ -8,8 +8,10 @@ use native.Mathlib.Omega.{arith}
 use lib.ListN.{length}
 use Rattle.encode.specs.Encode.{encodeOf}
 use Rattle.character_reference.specs.declared.Marker.{Marker}
+use Rattle.character_reference.specs.declared.Names.{Names}
 use Rattle.character_reference.specs.Reference.{referenceFor}
 use Rattle.event.specs.declared.Event.{Event}
+use Rattle.machine.specs.declared.Fixed.{Fixed}
 use Rattle.machine.specs.State.{State}
 use Rattle.machine.specs.Outcome.{go, _>>=_, need}
 use Rattle.machine.specs.Set.{encode, setMarker}
@@ -26,7 +28,7 @@ use Rattle.pieces.specs.Pieces.{PushesReference}
 use Rattle.context.specs.declared.Mark.{Mark}
 use Rattle.context.specs.declared.Mark.the-variants as M
 use Rattle.context.specs.declared.Context.{Context}
-use Rattle.context.specs.Rel.{Any, Sees, Keeps, Tells, MarkIs, ForgetsMarker}
+use Rattle.context.specs.Rel.{Rel, Any, Sees, Keeps, Tells, MarkIs, ForgetsMarker, namesIn}
 use Rattle.context.proofs.Laws.{withBuffers, rel-buffers, pushed}
 use Rattle.context.proofs.Commands.{flag-told}
 use Rattle.context.proofs.Slices.{Sliced}
@@ -36,6 +38,10 @@ use Rattle.on_inline.proofs.Own.{sliceIn, own}
 needed : {A : Type 0} (x : Option A) (a : A) → need x ≡ go a → x ≡ some a
 needed none a p = never p
 needed (some b) a p = cc
+
+-- the names that the build goes by
+chosen : {c : Context} {w o b : List ℕ} {s : State} → Rel c w o b s → namesIn (c .word) ≡ s .fixed .names
+chosen x = ap (λ (f : Fixed). f .names) (x .fixed)
 
 -- a marker waits, there is a slice, and the two stand for a text, which is appended
 record Referred (text : List ℕ) (e : Event) (s u : State) : Type 0 where
@@ -80,14 +86,14 @@ module _ (text : List ℕ) (e : Event) where
           let z : _≡_ {A = ℕ} 0 1 = cc in absurd (omega arith);
     }
 
-    pub refers : {n : Mark} {r : Context} {y : Bool} {x : Buffers} {w′ o′ : List ℕ} (m : Marker) → MarkIs c n → n ≡ M.Is m → ForgetsMarker c r → Tells Any (is encode) c y → PushesReference (c .fixed .names) m (sliceIn text e) y (r .buffers) w o x w′ o′
+    pub refers : {n : Mark} {r : Context} {y : Bool} {x : Buffers} {w′ o′ : List ℕ} {names : Names} (m : Marker) → MarkIs c n → n ≡ M.Is m → names ≡ namesIn (c .word) → ForgetsMarker c r → Tells Any (is encode) c y → PushesReference names m (sliceIn text e) y (r .buffers) w o x w′ o′
         → Keeps (Sees text e) reference c w o (withBuffers x r) w′ o′
-    refers {y = y} m a q f d k = record {
+    refers {y = y} {names = names} m a q j f d k = record {
       keeps = λ t b s u v x p.
           let g = went t s u v p in
           let h : some m ≡ s .waiting .marker = rw q at (a .mark-is w o b s x) in
           let i : m ≡ g .mark = (let j = g .waits in cc) in
-          let n : referenceFor (c .fixed .names) m (sliceIn text e) ≡ some (g .meaning) = rw (x .fixed, i, ← g .slice .bytes) (g .stands-for) in
+          let n : referenceFor names m (sliceIn text e) ≡ some (g .meaning) = rw (j, chosen x, i, ← g .slice .bytes) (g .stands-for) in
           let l = encodeOf y (g .meaning) in
           let z : push l (setMarker none s) ≡ u = rw (← flag-told d t x) (g .is) in
           let a = f .forgets w o b s x in

@@ -35,8 +35,7 @@ pub fn on_exit_character_reference_value(
     let Mark::Is(m) = x else {
         return c;
     };
-    let fixed = c.fixed;
-    let names = fixed.names;
+    let names = context::names_in(c);
     let mut r = context::forget_marker(c);
     let encoding = context::encodes(c);
     r.buffers = pieces::push_reference(

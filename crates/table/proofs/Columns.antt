@@ -24,7 +24,7 @@ use Rattle.table.specs.Table.{IsEvent}
 -- ---- the table alone
 
 abbrev withTable : Table → Context → Context
-withTable x c = record { buffers = c .buffers; word = c .word; rank = c .rank; tight = c .tight; table = x; fixed = c .fixed }
+withTable x c = record { buffers = c .buffers; word = c .word; rank = c .rank; tight = c .tight; table = x }
 
 abbrev columned : ℕ → Context → Context
 columned n c = withTable (record { inside = c .table .inside; extra = c .table .extra; column = n }) c

@@ -5,6 +5,7 @@ use mathlib.Core.Option.{none}
 use Prim.Native.Nat.{ℕ, _/_, _≤_, _<_}
 use native.Mathlib.Omega.{arith}
 use lib.ListN.{length, take}
+use Rattle.machine.specs.declared.Fixed.{Fixed}
 use Rattle.machine.specs.State.{State, Call}
 use Rattle.machine.specs.Outcome.{go}
 use Rattle.machine.specs.Section.{footnoteSection}
@@ -14,6 +15,7 @@ use Rattle.clean.specs.Section.{Appends}
 use Rattle.clean.proofs.Section.{section-goes}
 use Rattle.kept.specs.Kept.{tables}
 use Rattle.buffers.specs.Stand.{Holds}
+use Rattle.context.specs.Rel.{fixedIn}
 use Rattle.section.specs.Contracts.{WritesSection}
 use Rattle.whole.specs.declared.Whole.{Whole}
 use Rattle.whole.specs.Whole.{World}
@@ -80,13 +82,13 @@ record Sectioned (s : State) (out out′ : List ℕ) (end : ℕ) : Type 0 where
 called : (b : Whole) (text out : List ℕ) (w : World) (s : State) → (b .kept .calls ≡ 0 → ⊥) → Stands text (length out) b w s → (c : Call) × (cs : List Call) × (s .kept .calls ≡ c ∷ cs)
 called b text out w s z x = some-of (s .kept .calls) (λ p. z (x .built .kept .calls .rows ∙ p))
 
-module _ (b : Whole) {text work footnotes calls out out′ : List ℕ} {end : ℕ} (k : WritesSection (b .kept) (b .context .fixed) text work footnotes calls out (b .context .buffers .page) out′ end) where
+module _ (b : Whole) {text work footnotes calls out out′ : List ℕ} {end : ℕ} {fixed : Fixed} (h : fixed ≡ fixedIn (b .context .word)) (k : WritesSection (b .kept) fixed text work footnotes calls out (b .context .buffers .page) out′ end) where
   sectioned : (w : World) (s : State) → w .work ≡ work → w .out ≡ out → w .tables .footnotes ≡ footnotes → w .tables .calls ≡ calls → Stands text (length out) b w s → Last s → Sectioned s out out′ end
   sectioned w s i j f g x l =
       let e = section-goes s (l .clean) (l .called) in
       let p = none-over (length out) s (x .roomy) .kept-is in
       let m = x .built .kept .end in
-      let r = k .writes (w .tables .definitions) (w .tables .labels) s (e .0) (l .closed) (sym (x .built .context .fixed)) (rw (← i) (x .built .long)) (omega arith) (rw (← i, ← f, ← g) (x .built .kept)) (rw (← j) (x .built .context .stand .page)) (e .1) in
+      let r = k .writes (w .tables .definitions) (w .tables .labels) s (e .0) (l .closed) (sym (h ∙ x .built .context .fixed)) (rw (← i) (x .built .long)) (omega arith) (rw (← i, ← f, ← g) (x .built .kept)) (rw (← j) (x .built .context .stand .page)) (e .1) in
       record { after = e .0; goes = e .1; appends = e .2; holds = r .0; long = r .1 }
 
   module _ {events : List ℕ} (z : b .kept .calls ≡ 0 → ⊥) where

@@ -85,7 +85,7 @@ fn finish(
     if k.calls == 0 {
         return Rendered::Page(at);
     }
-    let fixed = c.fixed;
+    let fixed = context::fixed_in(c);
     let end = section::footnote_section(k, fixed, text, work, footnotes, calls, out, at);
     if out.len() < end {
         let n = event::count(events);

@@ -4,6 +4,9 @@ use Rattle.context.proofs.line_ending.Statement.{statement}
 use Rattle.context.proofs.line_ending.Tie as tie
 use Rattle.context.proofs.Laws.{ending}
 
+ending-in-requires : tie.Need-ending-in-requires
+ending-in-requires c κs = search needs
+
 line-ending-by-requires : tie.Need-line-ending-by-requires
 line-ending-by-requires c κs = search needs
 
@@ -17,4 +20,4 @@ returns : tie.Need-returns
 returns c = search ending
 
 pub line-ending-spec : {M : Type 1} → statement M
-line-ending-spec = tie.close (tie.spec line-ending-by-requires same-length same-length-2 returns)
+line-ending-spec = tie.close (tie.spec ending-in-requires line-ending-by-requires same-length same-length-2 returns)

@@ -4,6 +4,9 @@ use Rattle.context.proofs.line_ending_if_needed.Statement.{statement}
 use Rattle.context.proofs.line_ending_if_needed.Tie as tie
 use Rattle.context.proofs.Laws.{ending-if}
 
+ending-in-requires : tie.Need-ending-in-requires
+ending-in-requires c κs = search needs
+
 line-ending-by-requires : tie.Need-line-ending-by-requires
 line-ending-by-requires c κs = search needs
 
@@ -18,4 +21,4 @@ returns c = search ending-if
 
 pub line-ending-if-needed-spec : {M : Type 1} → statement M
 line-ending-if-needed-spec =
-    tie.close (tie.spec line-ending-by-requires same-length same-length-2 returns)
+    tie.close (tie.spec ending-in-requires line-ending-by-requires same-length same-length-2 returns)

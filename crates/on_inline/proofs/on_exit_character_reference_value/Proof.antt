@@ -26,6 +26,9 @@ returns-3 : tie.Need-returns-3
 unfolding onExitCharacterReferenceValue
 returns-3 c = search no-marker
 
+names-in-requires : tie.Need-names-in-requires
+names-in-requires c κs = search needs
+
 forget-marker-requires : tie.Need-forget-marker-requires
 forget-marker-requires c κs = search needs
 
@@ -61,6 +64,7 @@ on-exit-character-reference-value-spec =
     enum-known-x
     enum-told
     returns-3
+    names-in-requires
     forget-marker-requires
     encodes-requires
     part-push-reference-start
