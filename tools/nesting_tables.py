@@ -1,5 +1,5 @@
 #!/usr/bin/env python3
-"""Prints the states of crates/nesting/specs/Tables.antt and the tables of crates/nesting/src/lib.rt, from RULES R3.
+"""Prints the states of crates/check_nesting/specs/Tables.antt and the tables of crates/check_nesting/src/lib.rt, from RULES R3.
 
 Run `python3 tools/nesting_tables.py`, and put what it prints in the place of what is there: the check tests it against the rules in specs.
 """

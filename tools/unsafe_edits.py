@@ -1,5 +1,5 @@
 #!/usr/bin/env python3
-"""Makes the edits of unsafe_edits.txt, one at a time in a copy under target/, and says which crate between the edited one and `never` refuses it, and at what:
+"""Makes the edits of unsafe_edits.txt, one at a time in a copy under target/, and says which crate between the edited one and `machine_never` refuses it, and at what:
 unsafe_edits.py [FIRST LAST]. It is wrong if none does, if the edited crate itself does, or if a definition no longer checks; an edit called harmless must be proved. The crates that are proved already are taken over, so run `rt check never` before."""
 import pathlib, re, shutil, subprocess, sys
 
@@ -24,7 +24,7 @@ for number, (title, *changes) in enumerate(edits[first - 1:last], first):
         if text.count(old) != 1:
             sys.exit(f'{number}: {text.count(old)} times in {name}: {old}')
         file.write_text(text.replace(old, new))
-    check = subprocess.run(['rt', 'check', 'never'], cwd=scratch, capture_output=True, text=True)
+    check = subprocess.run(['rt', 'check', 'machine_never'], cwd=scratch, capture_output=True, text=True)
     error = re.search(r'/crates/(\w+)/(\S+?):(\d+):\d+: error: `([^`]*)`', check.stdout)
     said = f'refused in {error[1]}, at `{error[4]}` ({error[2]}:{error[3]})' if error else 'proved' if check.returncode == 0 else 'NO VERDICT'
     behind = error and error[1] != changes[0].split('/')[0] and error[2].startswith('proofs/')

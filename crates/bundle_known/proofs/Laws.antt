@@ -9,16 +9,16 @@ use lib.Dec.{leb}
 use lib.ListN.{length, take, drop, length-drop}
 use lib.Seq.{drop-drop}
 use Rattle.lent.specs.Fill.{Filled}
-use Rattle.block.specs.declared.Refusal.{Refusal}
-use Rattle.block.specs.declared.Refusal.the-variants.{Broken}
-use Rattle.block.specs.declared.Verdict.{Verdict}
-use Rattle.block.specs.declared.Verdict.the-variants.{Good, Bad}
-use Rattle.block.specs.Block.{editionIn, demand, judgeBlock}
-use Rattle.block.proofs.Block.{demanded-both, both-good}
-use Rattle.block_run.specs.Run.{judgeRun, heldIn}
-use Rattle.bundle.specs.Bundle.{textLength, eventCount, judgeHeader}
-use Rattle.bundle.specs.Sizes.{mostText, mostEvents, headerUsed, headerKind, textKind, eventKind}
-use Rattle.bundle.proofs.Bundle.{rest}
+use Rattle.bundle_block.specs.declared.Refusal.{Refusal}
+use Rattle.bundle_block.specs.declared.Refusal.the-variants.{Broken}
+use Rattle.bundle_block.specs.declared.Verdict.{Verdict}
+use Rattle.bundle_block.specs.declared.Verdict.the-variants.{Good, Bad}
+use Rattle.bundle_block.specs.Block.{editionIn, demand, judgeBlock}
+use Rattle.bundle_block.proofs.Block.{demanded-both, both-good}
+use Rattle.bundle_run.specs.Run.{judgeRun, heldIn}
+use Rattle.bundle_read.specs.Bundle.{textLength, eventCount, judgeHeader}
+use Rattle.bundle_read.specs.Sizes.{mostText, mostEvents, headerUsed, headerKind, textKind, eventKind}
+use Rattle.bundle_read.proofs.Bundle.{rest}
 use Rattle.bundle_known.specs.declared.Known.{Known}
 use Rattle.bundle_known.specs.declared.Step.{Step}
 use Rattle.bundle_known.specs.declared.Step.the-variants.{Next, Stop}

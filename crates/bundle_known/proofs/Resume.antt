@@ -11,11 +11,11 @@ use lib.Dec.{leb}
 use lib.ListN.{length, drop, length-append, length-drop}
 use lib.Seq.{take-append-le, drop-append-le}
 use Rattle.lent.specs.Bytes.{if_then_else_}
-use Rattle.block.specs.declared.Verdict.{Verdict}
-use Rattle.block.specs.declared.Verdict.the-variants.{Good, Bad}
-use Rattle.block.specs.Block.{_before_, field}
-use Rattle.bundle.specs.Bundle.{blocksFor, judgeHeader}
-use Rattle.bundle.specs.Sizes.{textRoom, textKind, eventKind}
+use Rattle.bundle_block.specs.declared.Verdict.{Verdict}
+use Rattle.bundle_block.specs.declared.Verdict.the-variants.{Good, Bad}
+use Rattle.bundle_block.specs.Block.{_before_, field}
+use Rattle.bundle_read.specs.Bundle.{blocksFor, judgeHeader}
+use Rattle.bundle_read.specs.Sizes.{textRoom, textKind, eventKind}
 use Rattle.bundle_known.specs.declared.Known.{Known}
 use Rattle.bundle_known.specs.Known.{saidIn, indexOf, withText, withEvents, taken, cameThen, judgeTaken, fillTaken, leftOf, Came, goes, _then_, unless, taking, textOf, eventsOf, runsOf, advanceOf}
 use Rattle.bundle_known.proofs.Runs.{none-there, none-due, none-judged, none-came, none-filled, all-left, taken-all, came-both, left-both, fill-both, judge-both}

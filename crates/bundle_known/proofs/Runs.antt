@@ -9,12 +9,12 @@ use lib.ListN.{length, drop, length-append, length-drop}
 use lib.Seq.{drop-drop, drop-append-le}
 use Rattle.lent.specs.Fill.{fill, past}
 use Rattle.lent.proofs.Laws.{fill-none, fill-out, fill-fill, length-fill}
-use Rattle.block.specs.declared.Verdict.the-variants.{Good}
-use Rattle.block.specs.Block.{_before_}
-use Rattle.block_run.specs.Run.{judgeRun, heldIn}
-use Rattle.block_run.proofs.Split.{judge-split, held-split, judge-front, held-front, length-some}
-use Rattle.bundle.specs.Bundle.{blocksFor}
-use Rattle.bundle.specs.Sizes.{textRoom}
+use Rattle.bundle_block.specs.declared.Verdict.the-variants.{Good}
+use Rattle.bundle_block.specs.Block.{_before_}
+use Rattle.bundle_run.specs.Run.{judgeRun, heldIn}
+use Rattle.bundle_run.proofs.Split.{judge-split, held-split, judge-front, held-front, length-some}
+use Rattle.bundle_read.specs.Bundle.{blocksFor}
+use Rattle.bundle_read.specs.Sizes.{textRoom}
 use Rattle.bundle_known.specs.Known.{taken, cameThen, judgeTaken, fillTaken, leftOf}
 
 -- what was put first, and then more behind it, is put as one, with room or without

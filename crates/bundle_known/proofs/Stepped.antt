@@ -10,9 +10,9 @@ use borrow.Author.Tests.{le-leb, leb-true}
 use lib.Dec.{leb}
 use lib.ListN.{length, drop, length-drop, drop-of-length-le}
 use Rattle.lent.proofs.Laws.{and-left, and-right}
-use Rattle.block.specs.declared.Verdict.{Verdict}
-use Rattle.block.specs.declared.Verdict.the-variants.{Good, Bad}
-use Rattle.bundle.specs.Bundle.{judgeHeader}
+use Rattle.bundle_block.specs.declared.Verdict.{Verdict}
+use Rattle.bundle_block.specs.declared.Verdict.the-variants.{Good, Bad}
+use Rattle.bundle_read.specs.Bundle.{judgeHeader}
 use Rattle.bundle_known.specs.declared.Known.{Known}
 use Rattle.bundle_known.specs.Known.{saidIn, wholeOf, taken, cameThen, fillTaken, leftOf, Came, goes, stops, _then_, unless, eventsOf, runsOf, advanceOf}
 use Rattle.bundle_known.proofs.Runs.{taken-all, length-filled}

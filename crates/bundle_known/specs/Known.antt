@@ -6,13 +6,13 @@ use lib.Dec.{leb}
 use lib.ListN.{length, drop}
 use Rattle.lent.specs.Bytes.{if_then_else_}
 use Rattle.lent.specs.Fill.{fill}
-use Rattle.block.specs.declared.Refusal.{Refusal}
-use Rattle.block.specs.declared.Verdict.{Verdict}
-use Rattle.block.specs.declared.Verdict.the-variants.{Good, Bad}
-use Rattle.block.specs.Block.{editionIn}
-use Rattle.block_run.specs.Run.{judgeRun, heldIn}
-use Rattle.bundle.specs.Bundle.{blocksFor, textLength, eventLength, judgeHeader}
-use Rattle.bundle.specs.Sizes.{textRoom, textKind, eventKind}
+use Rattle.bundle_block.specs.declared.Refusal.{Refusal}
+use Rattle.bundle_block.specs.declared.Verdict.{Verdict}
+use Rattle.bundle_block.specs.declared.Verdict.the-variants.{Good, Bad}
+use Rattle.bundle_block.specs.Block.{editionIn}
+use Rattle.bundle_run.specs.Run.{judgeRun, heldIn}
+use Rattle.bundle_read.specs.Bundle.{blocksFor, textLength, eventLength, judgeHeader}
+use Rattle.bundle_read.specs.Sizes.{textRoom, textKind, eventKind}
 use Rattle.bundle_known.specs.declared.Known.{Known}
 
 -- before the first block

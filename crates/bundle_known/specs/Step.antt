@@ -3,7 +3,7 @@ use mathlib.Core.Path.{_≡_}
 use mathlib.Core.List.{List}
 use Prim.Native.Nat.{ℕ, _*_, _≤_}
 use lib.ListN.{length, drop}
-use Rattle.block.specs.declared.Verdict.the-variants.{Good, Bad}
+use Rattle.bundle_block.specs.declared.Verdict.the-variants.{Good, Bad}
 use Rattle.bundle_known.specs.declared.Known.{Known}
 use Rattle.bundle_known.specs.declared.Step.{Step}
 use Rattle.bundle_known.specs.declared.Step.the-variants.{Next, Stop}

@@ -2,18 +2,18 @@
 ghost use Prim.Native.Nat.{_-_, _/_, _≤_, _<_, min};
 ghost use mathlib.Core.Path.{_≡_};
 ghost use lib.ListN.{length};
-ghost use Rattle.bundle.specs.Bundle.{blocksFor, eventCount};
+ghost use Rattle.bundle_read.specs.Bundle.{blocksFor, eventCount};
 ghost use Rattle.bundle_known.specs.Known.{unknown, saidIn, indexOf, wholeOf, withText, withEvents};
 ghost use Rattle.bundle_known.specs.Step.{Advanced, RanAll, RanEvents, Ran};
-use block::Refusal;
-use block::Verdict;
-use block_run::BLOCK;
-use bundle::EVENT_KIND;
-use bundle::TEXT_KIND;
+use bundle_block::Refusal;
+use bundle_block::Verdict;
+use bundle_read::EVENT_KIND;
+use bundle_read::TEXT_KIND;
+use bundle_run::BLOCK;
 use event::Event;
 
 // What a block of either kind can hold.
-const ROOM: usize = bundle::TEXT_ROOM;
+const ROOM: usize = bundle_read::TEXT_ROOM;
 
 const RECORD: u32 = Event::SIZE as u32;
 
@@ -71,7 +71,7 @@ pub fn advance(k: Known, bytes: &[u8], text: &mut [u8], events: &mut [u8]) -> St
     if bytes.len() < BLOCK {
         return Step::Next(k, 0);
     }
-    let verdict = bundle::judge_header(bytes);
+    let verdict = bundle_read::judge_header(bytes);
     match verdict {
         Verdict::Bad(r) => Step::Stop(r),
         Verdict::Good => take_runs(said(bytes), bytes, BLOCK, text, events),
@@ -85,9 +85,9 @@ fn said(bytes: &[u8]) -> Known
 {
     Known {
         begun: true,
-        edition: block::u32_at(bytes, 0),
-        text: block::u32_at(bytes, 8),
-        events: RECORD * block::u32_at(bytes, 12),
+        edition: bundle_block::u32_at(bytes, 0),
+        text: bundle_block::u32_at(bytes, 8),
+        events: RECORD * bundle_block::u32_at(bytes, 12),
         text_came: 0,
         events_came: 0,
     }
@@ -147,13 +147,13 @@ fn take_run(
 {
     let left = rest(came, total) as usize;
     let count = due(bytes.len(), came, total);
-    let verdict = block_run::judge_run(bytes, edition, kind, ROOM, index, index + count, left);
+    let verdict = bundle_run::judge_run(bytes, edition, kind, ROOM, index, index + count, left);
     match verdict {
         Verdict::Bad(r) => Run::Stopped(r),
         Verdict::Good => {
-            block_run::copy_run(bytes, ROOM, count, left, out, came as usize);
+            bundle_run::copy_run(bytes, ROOM, count, left, out, came as usize);
             Run::Took(
-                came + block::least(ROOM * count, left) as u32,
+                came + bundle_block::least(ROOM * count, left) as u32,
                 BLOCK * count,
             )
         }
@@ -164,7 +164,7 @@ fn take_run(
 fn due(bytes: usize, came: u32, total: u32) -> usize
     ensures { λ r. ⌜ (r ≡ min (bytes / 512) (blocksFor 500 (total - came))) × (r < 10000000) ⌝ }
 {
-    block::least(bytes / BLOCK, blocks_for(rest(came, total)))
+    bundle_block::least(bytes / BLOCK, blocks_for(rest(came, total)))
 }
 
 // How much has still to come.

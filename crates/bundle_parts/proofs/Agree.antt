@@ -6,13 +6,13 @@ use native.Mathlib.Decide.{decLe}
 use native.Mathlib.Omega.{arith}
 use borrow.Author.Tests.{le-leb}
 use lib.ListN.{length}
-use Rattle.block.specs.declared.Refusal.{Refusal}
-use Rattle.block.specs.declared.Verdict.{Verdict}
-use Rattle.block.specs.declared.Verdict.the-variants.{Good, Bad}
-use Rattle.block.specs.Block.{_before_}
-use Rattle.block.proofs.Block.{both-good}
-use Rattle.bundle.specs.Bundle.{judgeLength, judgeHeader, judgeCount, judgeText, judgeEvents, judgeBundle, textIn, eventsIn}
-use Rattle.bundle.proofs.Bundle.{whole-blocks}
+use Rattle.bundle_block.specs.declared.Refusal.{Refusal}
+use Rattle.bundle_block.specs.declared.Verdict.{Verdict}
+use Rattle.bundle_block.specs.declared.Verdict.the-variants.{Good, Bad}
+use Rattle.bundle_block.specs.Block.{_before_}
+use Rattle.bundle_block.proofs.Block.{both-good}
+use Rattle.bundle_read.specs.Bundle.{judgeLength, judgeHeader, judgeCount, judgeText, judgeEvents, judgeBundle, textIn, eventsIn}
+use Rattle.bundle_read.proofs.Bundle.{whole-blocks}
 use Rattle.bundle_parts.specs.Late.{judgeTextCame, judgeEventsCame, judgeCame, judgeLate, textSoFar, eventsSoFar}
 use Rattle.bundle_parts.proofs.Ends.{asked, other-bad, texts-all, records-all}
 

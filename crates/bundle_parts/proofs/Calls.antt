@@ -8,9 +8,9 @@ use native.Mathlib.Omega.{arith}
 use lib.ListN.{length, take, length-take, length-replicate}
 use Rattle.lent.specs.Bytes.{if_then_else_}
 use Rattle.lent.specs.Fill.{zeros}
-use Rattle.block.specs.declared.Refusal.the-variants.{Short, Broken}
-use Rattle.bundle.specs.declared.Answer.{Answer}
-use Rattle.bundle.specs.declared.Answer.the-variants.{Bundle}
+use Rattle.bundle_block.specs.declared.Refusal.the-variants.{Short, Broken}
+use Rattle.bundle_read.specs.declared.Answer.{Answer}
+use Rattle.bundle_read.specs.declared.Answer.the-variants.{Bundle}
 use Rattle.bundle_known.specs.declared.Known.{Known}
 use Rattle.bundle_known.specs.Known.{unknown, wholeOf, advanceOf}
 use Rattle.bundle_known.proofs.Stepped.{whole-stays}

@@ -9,14 +9,14 @@ use borrow.Author.Tests.{lt-leb}
 use lib.ListN.{length, length-append, length-replicate}
 use Rattle.lent.specs.Bytes.{if_then_else_}
 use Rattle.lent.specs.Fill.{fill, zeros}
-use Rattle.block.specs.declared.Refusal.{Refusal}
-use Rattle.block.specs.declared.Refusal.the-variants.{Short, Broken}
-use Rattle.block.specs.declared.Verdict.{Verdict}
-use Rattle.block.specs.declared.Verdict.the-variants.{Good, Bad}
-use Rattle.block.specs.Block.{editionIn}
-use Rattle.bundle.specs.declared.Answer.{Answer}
-use Rattle.bundle.specs.Bundle.{textLength, eventLength, refused, meant}
-use Rattle.bundle.proofs.Bundle.{sound, length-text, length-events, numbered}
+use Rattle.bundle_block.specs.declared.Refusal.{Refusal}
+use Rattle.bundle_block.specs.declared.Refusal.the-variants.{Short, Broken}
+use Rattle.bundle_block.specs.declared.Verdict.{Verdict}
+use Rattle.bundle_block.specs.declared.Verdict.the-variants.{Good, Bad}
+use Rattle.bundle_block.specs.Block.{editionIn}
+use Rattle.bundle_read.specs.declared.Answer.{Answer}
+use Rattle.bundle_read.specs.Bundle.{textLength, eventLength, refused, meant}
+use Rattle.bundle_read.proofs.Bundle.{sound, length-text, length-events, numbered}
 use Rattle.bundle_known.specs.declared.Known.{Known}
 use Rattle.bundle_known.specs.Known.{wholeOf}
 use Rattle.bundle_parts.specs.declared.Progress.the-variants.{More, Done}

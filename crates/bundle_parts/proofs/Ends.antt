@@ -8,10 +8,10 @@ use native.Mathlib.Nat.{sub-zero}
 use native.Mathlib.Omega.{arith}
 use borrow.Author.Tests.{lt-ltb, le-ltb, le-leb, lt-leb, eq-eqb, ne-eqb}
 use lib.ListN.{length, length-drop}
-use Rattle.block.specs.declared.Refusal.the-variants.{Broken}
-use Rattle.block.specs.declared.Verdict.the-variants.{Good, Bad}
-use Rattle.block.specs.Block.{_before_}
-use Rattle.bundle.specs.Bundle.{blocksFor, textLength, eventLength, textBlocks, eventBlocks, judgeLength, judgeCount}
+use Rattle.bundle_block.specs.declared.Refusal.the-variants.{Broken}
+use Rattle.bundle_block.specs.declared.Verdict.the-variants.{Good, Bad}
+use Rattle.bundle_block.specs.Block.{_before_}
+use Rattle.bundle_read.specs.Bundle.{blocksFor, textLength, eventLength, textBlocks, eventBlocks, judgeLength, judgeCount}
 use Rattle.bundle_known.specs.Known.{wholeOf, taken}
 use Rattle.bundle_parts.specs.Late.{textBlocksCame, eventBlocksCame}
 use Rattle.bundle_parts.specs.Feed.{isEmpty}

@@ -6,9 +6,9 @@ use Prim.Native.Nat.{ℕ}
 use lib.ListN.{length, length-replicate}
 use Rattle.lent.specs.Bytes.{if_then_else_}
 use Rattle.lent.specs.Fill.{zeros}
-use Rattle.block.specs.declared.Refusal.{Refusal}
-use Rattle.block.specs.declared.Refusal.the-variants.{Short}
-use Rattle.bundle.specs.declared.Answer.{Answer}
+use Rattle.bundle_block.specs.declared.Refusal.{Refusal}
+use Rattle.bundle_block.specs.declared.Refusal.the-variants.{Short}
+use Rattle.bundle_read.specs.declared.Answer.{Answer}
 use Rattle.bundle_known.specs.declared.Known.{Known}
 use Rattle.bundle_known.specs.Known.{wholeOf, Came, goes, stops, _then_, advanceOf}
 use Rattle.bundle_known.proofs.Resume.{later, advance-both}

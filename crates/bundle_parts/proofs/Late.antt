@@ -10,10 +10,10 @@ use borrow.Author.Tests.{le-leb}
 use lib.ListN.{length, drop, length-drop}
 use lib.Seq.{drop-drop}
 use Rattle.lent.specs.Fill.{fill}
-use Rattle.block.specs.Block.{editionIn, _before_}
-use Rattle.block_run.specs.Run.{judgeRun, heldIn}
-use Rattle.bundle.specs.Bundle.{blocksFor, textLength, eventLength, textBlocks, eventPart, judgeHeader}
-use Rattle.bundle.specs.Sizes.{textRoom, textKind, eventKind}
+use Rattle.bundle_block.specs.Block.{editionIn, _before_}
+use Rattle.bundle_run.specs.Run.{judgeRun, heldIn}
+use Rattle.bundle_read.specs.Bundle.{blocksFor, textLength, eventLength, textBlocks, eventPart, judgeHeader}
+use Rattle.bundle_read.specs.Sizes.{textRoom, textKind, eventKind}
 use Rattle.bundle_known.specs.declared.Known.{Known}
 use Rattle.bundle_known.specs.Known.{unknown, saidIn, taken, cameThen, judgeTaken, fillTaken, leftOf, goes, unless, runsOf, advanceOf}
 use Rattle.bundle_known.proofs.Resume.{unless-before, header-there, runs-form, textTaken, behindText, leftText, eventsTaken, behindEvents}

@@ -3,10 +3,10 @@ use mathlib.Core.Path.{_≡_, refl, sym, ap, _∙_}
 use mathlib.Core.Bool.{Bool, true, false}
 use mathlib.Core.List.{List, [], _∷_, _++_}
 use Prim.Native.Nat.{ℕ, _+_}
-use Rattle.block.specs.declared.Refusal.the-variants.{Short}
-use Rattle.block.specs.Block.{_before_, demand}
-use Rattle.bundle.specs.declared.Answer.{Answer}
-use Rattle.bundle.specs.Bundle.{says}
+use Rattle.bundle_block.specs.declared.Refusal.the-variants.{Short}
+use Rattle.bundle_block.specs.Block.{_before_, demand}
+use Rattle.bundle_read.specs.declared.Answer.{Answer}
+use Rattle.bundle_read.specs.Bundle.{says}
 use Rattle.bundle_parts.specs.declared.Progress.the-variants.{Done}
 use Rattle.bundle_parts.specs.Late.{judgeCame}
 use Rattle.bundle_parts.specs.declared.Reader.{Reader}

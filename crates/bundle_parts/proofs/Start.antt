@@ -13,15 +13,15 @@ use lib.Seq.{take-all}
 use Rattle.lent.specs.Bytes.{if_then_else_}
 use Rattle.lent.specs.Fill.{fill, zeros}
 use Rattle.lent.proofs.Laws.{and-left, and-right}
-use Rattle.block.specs.declared.Refusal.{Refusal}
-use Rattle.block.specs.declared.Refusal.the-variants.{Broken}
-use Rattle.block.specs.declared.Verdict.{Verdict}
-use Rattle.block.specs.declared.Verdict.the-variants.{Good, Bad}
-use Rattle.block.specs.Block.{editionIn, _before_, demand, judgeBlock}
-use Rattle.block.proofs.Block.{both-good, demanded-both}
-use Rattle.block_run.proofs.Split.{length-some}
-use Rattle.bundle.specs.Bundle.{textLength, eventCount, eventLength, textBlocks, textPart, eventPart, judgeHeader}
-use Rattle.bundle.specs.Sizes.{leastRoom, mostText, mostEvents, textRoom, headerUsed, headerKind}
+use Rattle.bundle_block.specs.declared.Refusal.{Refusal}
+use Rattle.bundle_block.specs.declared.Refusal.the-variants.{Broken}
+use Rattle.bundle_block.specs.declared.Verdict.{Verdict}
+use Rattle.bundle_block.specs.declared.Verdict.the-variants.{Good, Bad}
+use Rattle.bundle_block.specs.Block.{editionIn, _before_, demand, judgeBlock}
+use Rattle.bundle_block.proofs.Block.{both-good, demanded-both}
+use Rattle.bundle_run.proofs.Split.{length-some}
+use Rattle.bundle_read.specs.Bundle.{textLength, eventCount, eventLength, textBlocks, textPart, eventPart, judgeHeader}
+use Rattle.bundle_read.specs.Sizes.{leastRoom, mostText, mostEvents, textRoom, headerUsed, headerKind}
 use Rattle.bundle_known.specs.declared.Known.{Known}
 use Rattle.bundle_known.specs.Known.{unknown, wholeOf, goes, unless, advanceOf}
 use Rattle.bundle_known.proofs.Resume.{no-block}

@@ -12,9 +12,9 @@ use lib.ListN.{length, take, drop, length-append, length-take, drop-of-length-le
 use lib.Seq.{take-all}
 use Rattle.lent.specs.Fill.{fill, zeros, Filled}
 use Rattle.lent.proofs.Laws.{take-fill, fill-cut}
-use Rattle.block.specs.declared.Refusal.{Refusal}
-use Rattle.bundle.specs.declared.Answer.the-variants.{Refused}
-use Rattle.bundle.proofs.Bundle.{rest}
+use Rattle.bundle_block.specs.declared.Refusal.{Refusal}
+use Rattle.bundle_read.specs.declared.Answer.the-variants.{Refused}
+use Rattle.bundle_read.proofs.Bundle.{rest}
 use Rattle.bundle_known.specs.declared.Known.{Known}
 use Rattle.bundle_known.specs.declared.Step.{Step}
 use Rattle.bundle_known.specs.declared.Step.the-variants.{Next, Stop}

@@ -5,9 +5,9 @@ use Prim.Native.Nat.{ℕ, min}
 use lib.ListN.{length, take}
 use Rattle.lent.specs.Bytes.{if_then_else_}
 use Rattle.lent.specs.Fill.{zeros}
-use Rattle.block.specs.declared.Refusal.{Refusal}
-use Rattle.block.specs.declared.Refusal.the-variants.{Short, Broken}
-use Rattle.bundle.specs.declared.Answer.the-variants.{Bundle, Refused}
+use Rattle.bundle_block.specs.declared.Refusal.{Refusal}
+use Rattle.bundle_block.specs.declared.Refusal.the-variants.{Short, Broken}
+use Rattle.bundle_read.specs.declared.Answer.the-variants.{Bundle, Refused}
 use Rattle.bundle_known.specs.declared.Known.{Known}
 use Rattle.bundle_known.specs.Known.{unknown, wholeOf, Came, goes, stops, advanceOf}
 use Rattle.bundle_parts.specs.declared.Progress.{Progress}

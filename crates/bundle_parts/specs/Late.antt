@@ -5,13 +5,13 @@ use Prim.Native.Nat.{ℕ, _+_, _-_, _/_, min}
 use lib.Dec.{leb}
 use lib.ListN.{length}
 use Rattle.lent.specs.Bytes.{if_then_else_}
-use Rattle.block.specs.declared.Refusal.the-variants.{Short}
-use Rattle.block.specs.declared.Verdict.{Verdict}
-use Rattle.block.specs.declared.Verdict.the-variants.{Good}
-use Rattle.block.specs.Block.{editionIn, _before_}
-use Rattle.block_run.specs.Run.{judgeRun, heldIn}
-use Rattle.bundle.specs.Bundle.{textLength, eventLength, textBlocks, eventBlocks, textPart, eventPart, judgeLength, judgeHeader, judgeCount, Meaning, refused, meant}
-use Rattle.bundle.specs.Sizes.{leastRoom, textRoom, eventRoom, textKind, eventKind}
+use Rattle.bundle_block.specs.declared.Refusal.the-variants.{Short}
+use Rattle.bundle_block.specs.declared.Verdict.{Verdict}
+use Rattle.bundle_block.specs.declared.Verdict.the-variants.{Good}
+use Rattle.bundle_block.specs.Block.{editionIn, _before_}
+use Rattle.bundle_run.specs.Run.{judgeRun, heldIn}
+use Rattle.bundle_read.specs.Bundle.{textLength, eventLength, textBlocks, eventBlocks, textPart, eventPart, judgeLength, judgeHeader, judgeCount, Meaning, refused, meant}
+use Rattle.bundle_read.specs.Sizes.{leastRoom, textRoom, eventRoom, textKind, eventKind}
 
 -- the two buffers are long enough; else refusal 1
 abbrev pub isRoomy : (textBuffer eventBuffer : ℕ) → Bool

@@ -4,11 +4,11 @@ use mathlib.Core.List.{List, [], _∷_, _++_}
 use Prim.Native.Nat.{ℕ, _-_}
 use lib.ListN.{length}
 use Rattle.lent.specs.Fill.{zeros}
-use Rattle.block.specs.declared.Refusal.the-variants.{Short}
-use Rattle.block.specs.declared.Verdict.{Verdict}
-use Rattle.block.specs.declared.Verdict.the-variants.{Good, Bad}
-use Rattle.block.specs.Block.{_before_, demand}
-use Rattle.bundle.specs.Read.{answerOf, Numbered, textBytes, eventBytes}
+use Rattle.bundle_block.specs.declared.Refusal.the-variants.{Short}
+use Rattle.bundle_block.specs.declared.Verdict.{Verdict}
+use Rattle.bundle_block.specs.declared.Verdict.the-variants.{Good, Bad}
+use Rattle.bundle_block.specs.Block.{_before_, demand}
+use Rattle.bundle_read.specs.Read.{answerOf, Numbered, textBytes, eventBytes}
 use Rattle.bundle_parts.specs.declared.Progress.the-variants.{More, Done}
 use Rattle.bundle_parts.specs.Late.{judgeCame, textSoFar, eventsSoFar, callLate}
 use Rattle.bundle_parts.specs.Feed.{Stand, refusedAt, roomy, feedOf}

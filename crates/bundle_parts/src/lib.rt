@@ -10,12 +10,12 @@ ghost use Rattle.bundle_known.specs.Known.{wholeOf, advanceOf};
 ghost use Rattle.bundle_parts.specs.Feed.{standing, standOf, startOf, refusedAt, kept, settled, feedOf, endOf};
 ghost use Rattle.bundle_parts.specs.Late.{isRoomy};
 ghost use Rattle.bundle_parts.specs.Private.{clearedUnless, TookMore, Finished};
-use block::Refusal;
-use block_run::BLOCK;
-use bundle::Answer;
-use bundle::LEAST_ROOM;
+use bundle_block::Refusal;
 use bundle_known::Known;
 use bundle_known::Step;
+use bundle_read::Answer;
+use bundle_read::LEAST_ROOM;
+use bundle_run::BLOCK;
 
 // More is wanted, or the answer.
 pub enum Progress {
@@ -164,7 +164,7 @@ fn take_more(
 {
     let known = state.known;
     let over = state.over;
-    let held = block::least(state.held, BLOCK - 1);
+    let held = bundle_block::least(state.held, BLOCK - 1);
     if held == 0 {
         begin(known.begun, text, events);
         return take(known, over, rest, part, text, events);

@@ -9,10 +9,10 @@ use lib.Dec.{eqb, leb}
 use lib.ListN.{length, take}
 use Rattle.lent.specs.Fill.{fill, zeros}
 use Rattle.lent.proofs.Laws.{length-fill}
-use Rattle.block.proofs.Block.{both-true}
-use Rattle.bundle.specs.Bundle.{blocksFor, bundleOf}
-use Rattle.bundle.specs.Sizes.{mostText, mostEvents, recordSize, textRoom, eventRoom}
-use Rattle.bundle.proofs.Inverse.{length-bundle}
+use Rattle.bundle_block.proofs.Block.{both-true}
+use Rattle.bundle_read.specs.Bundle.{blocksFor, bundleOf}
+use Rattle.bundle_read.specs.Sizes.{mostText, mostEvents, recordSize, textRoom, eventRoom}
+use Rattle.bundle_read.proofs.Inverse.{length-bundle}
 use Rattle.bundle_writer.specs.declared.Packed.{Packed}
 use Rattle.bundle_writer.specs.declared.Packed.the-variants.{Length, WrongLength, NoRoom}
 use Rattle.bundle_writer.specs.Packed.{rightLengths, choose, HasPacked}

@@ -3,10 +3,10 @@ use mathlib.Core.Path.{_≡_, _∙_}
 use mathlib.Core.List.{List, [], _∷_, _++_}
 use Prim.Native.Nat.{ℕ}
 use Rattle.lent.specs.Fill.{zeros}
-use Rattle.block.specs.Block.{little, weighed, checkOf, frontOf, blockOf}
-use Rattle.block_run.specs.Run.{runOf}
-use Rattle.bundle.specs.Bundle.{bundleOf}
-use Rattle.bundle.proofs.Inverse.{length-bundle}
+use Rattle.bundle_block.specs.Block.{little, weighed, checkOf, frontOf, blockOf}
+use Rattle.bundle_run.specs.Run.{runOf}
+use Rattle.bundle_read.specs.Bundle.{bundleOf}
+use Rattle.bundle_read.proofs.Inverse.{length-bundle}
 use Rattle.bundle_writer.specs.declared.Packed.{Packed}
 use Rattle.bundle_writer.specs.declared.Packed.the-variants.{Length}
 use Rattle.bundle_writer.specs.Packed.{numberOf, valueOf, choose, HasPacked}

@@ -10,14 +10,14 @@ use lib.ListN.{length, take}
 use lib.Seq.{take-at}
 use Rattle.lent.specs.Bytes.{if_then_else_, all}
 use Rattle.lent.specs.Fill.{zeros}
-use Rattle.block.specs.declared.Refusal.the-variants.{Short}
-use Rattle.block.specs.Block.{isByte}
-use Rattle.bundle.specs.declared.Answer.{Answer}
-use Rattle.bundle.specs.declared.Answer.the-variants.{Bundle}
-use Rattle.bundle.specs.Bundle.{bundleOf, Meaning, says, refused, readOf}
-use Rattle.bundle.specs.Read.{callOf, answerOf, HasRead}
-use Rattle.bundle.specs.Sizes.{mostText, mostEvents, recordSize, leastRoom, Within}
-use Rattle.bundle.proofs.Inverse.{read-written, written-read}
+use Rattle.bundle_block.specs.declared.Refusal.the-variants.{Short}
+use Rattle.bundle_block.specs.Block.{isByte}
+use Rattle.bundle_read.specs.declared.Answer.{Answer}
+use Rattle.bundle_read.specs.declared.Answer.the-variants.{Bundle}
+use Rattle.bundle_read.specs.Bundle.{bundleOf, Meaning, says, refused, readOf}
+use Rattle.bundle_read.specs.Read.{callOf, answerOf, HasRead}
+use Rattle.bundle_read.specs.Sizes.{mostText, mostEvents, recordSize, leastRoom, Within}
+use Rattle.bundle_read.proofs.Inverse.{read-written, written-read}
 use Rattle.bundle_writer.specs.declared.Packed.{Packed}
 use Rattle.bundle_writer.specs.declared.Packed.the-variants.{Length, WrongLength, NoRoom}
 use Rattle.bundle_writer.specs.Packed.{rightLengths, choose, HasPacked}

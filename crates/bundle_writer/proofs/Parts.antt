@@ -8,12 +8,12 @@ use lib.ListN.{length, take, drop, length-append}
 use lib.Seq.{take-at}
 use Rattle.lent.specs.Fill.{fill, past, Filled}
 use Rattle.lent.proofs.Laws.{both, fill-fill, take-fill}
-use Rattle.block.specs.Block.{little, blockOf}
-use Rattle.block.proofs.Inverse.{length-block}
-use Rattle.block_run.specs.Run.{runOf}
-use Rattle.block_run.proofs.Inverse.{length-run}
-use Rattle.bundle.specs.Bundle.{blocksFor, headerOf, bundleOf}
-use Rattle.bundle.specs.Sizes.{textRoom, eventRoom, headerKind, textKind, eventKind}
+use Rattle.bundle_block.specs.Block.{little, blockOf}
+use Rattle.bundle_block.proofs.Inverse.{length-block}
+use Rattle.bundle_run.specs.Run.{runOf}
+use Rattle.bundle_run.proofs.Inverse.{length-run}
+use Rattle.bundle_read.specs.Bundle.{blocksFor, headerOf, bundleOf}
+use Rattle.bundle_read.specs.Sizes.{textRoom, eventRoom, headerKind, textKind, eventKind}
 
 -- a buffer of just that length
 fill-whole : (b s : List ℕ) → length s ≡ length b → fill b 0 s ≡ s

@@ -7,8 +7,8 @@ use lib.Dec.{eqb, leb, ltb}
 use lib.ListN.{length}
 use Rattle.lent.specs.Bytes.{if_then_else_}
 use Rattle.lent.specs.Fill.{zeros}
-use Rattle.bundle.specs.Bundle.{bundleOf}
-use Rattle.bundle.specs.Sizes.{mostText, mostEvents, recordSize}
+use Rattle.bundle_read.specs.Bundle.{bundleOf}
+use Rattle.bundle_read.specs.Sizes.{mostText, mostEvents, recordSize}
 use Rattle.bundle_writer.specs.declared.Packed.{Packed}
 use Rattle.bundle_writer.specs.declared.Packed.the-variants.{Length, WrongLength, NoRoom}
 

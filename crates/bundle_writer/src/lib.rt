@@ -4,21 +4,21 @@ ghost use mathlib.Core.List.{_++_};
 ghost use mathlib.Core.Path.{_≡_};
 ghost use lib.ListN.{length};
 ghost use Rattle.lent.specs.Fill.{fill, zeros};
-ghost use Rattle.block.specs.Block.{little, blockOf};
-ghost use Rattle.block_run.specs.Run.{runOf};
-ghost use Rattle.bundle.specs.Bundle.{blocksFor, bundleOf};
-ghost use Rattle.bundle.specs.Sizes.{mostText, mostEvents, recordSize, textRoom, eventRoom, headerKind};
+ghost use Rattle.bundle_block.specs.Block.{little, blockOf};
+ghost use Rattle.bundle_run.specs.Run.{runOf};
+ghost use Rattle.bundle_read.specs.Bundle.{blocksFor, bundleOf};
+ghost use Rattle.bundle_read.specs.Sizes.{mostText, mostEvents, recordSize, textRoom, eventRoom, headerKind};
 ghost use Rattle.bundle_writer.specs.Packed.{numberOf, valueOf, rightLengths, HasPacked};
-use block_run::BLOCK;
-use block_writer::U32;
-use bundle::EVENT_KIND;
-use bundle::EVENT_ROOM;
-use bundle::HEADER_KIND;
-use bundle::HEADER_USED;
-use bundle::MOST_EVENTS;
-use bundle::MOST_TEXT;
-use bundle::TEXT_KIND;
-use bundle::TEXT_ROOM;
+use bundle_block_writer::U32;
+use bundle_read::EVENT_KIND;
+use bundle_read::EVENT_ROOM;
+use bundle_read::HEADER_KIND;
+use bundle_read::HEADER_USED;
+use bundle_read::MOST_EVENTS;
+use bundle_read::MOST_TEXT;
+use bundle_read::TEXT_KIND;
+use bundle_read::TEXT_ROOM;
+use bundle_run::BLOCK;
 use event::Event;
 
 // The bundle's length, or why none was written.
@@ -84,7 +84,9 @@ fn bundle_length(text: usize, events: usize) -> usize
     requires { ⌜ (text ≤ mostText) × (events ≤ recordSize * mostEvents) ⌝ }
     ensures { λ r. ⌜ r ≡ 512 * (1 + blocksFor textRoom text + blocksFor eventRoom events) ⌝ }
 {
-    let blocks = 1 + bundle::blocks_for(TEXT_ROOM, text) + bundle::blocks_for(EVENT_ROOM, events);
+    let blocks = 1
+        + bundle_read::blocks_for(TEXT_ROOM, text)
+        + bundle_read::blocks_for(EVENT_ROOM, events);
     BLOCK * blocks
 }
 
@@ -104,9 +106,9 @@ fn write_header(out: &mut [u8], edition: u32, text: usize, events: usize)
     ensures { λ _. ⌜ now (out .exit) ≡ fill (now (out .entry)) 0 (blockOf edition 0 headerKind (little 4 text ++ little 4 (events / recordSize))) ⌝ }
 {
     let mut payload = [0u8; HEADER_USED];
-    let half = block_writer::put_little(&mut payload, 0, U32, text);
-    block_writer::put_little(&mut payload, half, U32, events / Event::SIZE);
-    block_writer::write_block(out, 0, edition, 0, HEADER_KIND, &payload);
+    let half = bundle_block_writer::put_little(&mut payload, 0, U32, text);
+    bundle_block_writer::put_little(&mut payload, half, U32, events / Event::SIZE);
+    bundle_block_writer::write_block(out, 0, edition, 0, HEADER_KIND, &payload);
 }
 
 // As many blocks as are needed, from `start` on; the answer is the number behind the last.
@@ -121,7 +123,7 @@ fn write_part(
     requires { ⌜ (0 < room) × (room ≤ 500) × (length (now given) < 1000000000000) × (512 * (start + blocksFor room (length (now given))) ≤ length (now out)) ⌝ }
     ensures { λ r. ⌜ (r ≡ start + blocksFor room (length (now (given .entry)))) × (now (out .exit) ≡ fill (now (out .entry)) (512 * start) (runOf edition kind room start (blocksFor room (length (now (given .entry)))) (now (given .entry)))) ⌝ }
 {
-    let end = start + bundle::blocks_for(room, given.len());
-    block_writer::write_run(out, edition, kind, room, start, end, given);
+    let end = start + bundle_read::blocks_for(room, given.len());
+    bundle_block_writer::write_run(out, edition, kind, room, start, end, given);
     end
 }

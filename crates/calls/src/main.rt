@@ -89,7 +89,7 @@ fn read_request(header: &[u8; 32]) -> Request {
         events: u32_at(header, 8),
         room: u32_at(header, 12),
         work: u32_at(header, 16),
-        edition: block::u32_at(header, 20),
+        edition: bundle_block::u32_at(header, 20),
     }
 }
 
@@ -239,7 +239,7 @@ fn call_build(
     events: &[u8],
     out: &mut [u8],
     work: &mut [u8],
-) -> built::Built {
+) -> call_build_answer::Built {
     fill_both(out, work);
     page::build(text, events, options_of(r), out, work)
 }
@@ -272,7 +272,7 @@ fn ending_of(ending: u8) -> Ending {
     }
 }
 
-fn call_reader(bundle: &[u8], text: &mut [u8], events: &mut [u8]) -> bundle::Answer {
+fn call_reader(bundle: &[u8], text: &mut [u8], events: &mut [u8]) -> bundle_read::Answer {
     fill_both(text, events);
     page::read_bundle(bundle, text, events)
 }
@@ -319,7 +319,7 @@ fn feed_parts(
     let mut at = 0;
     let mut listed = 0;
     while 4 <= lengths.len() - listed {
-        let end = at + block::least(u32_at(lengths, listed), bytes.len() - at);
+        let end = at + bundle_block::least(u32_at(lengths, listed), bytes.len() - at);
         reader = page::feed_bundle(reader, &bytes[at..end], text, events);
         at = end;
         listed += 4;
@@ -327,7 +327,7 @@ fn feed_parts(
     reader
 }
 
-fn call(r: Request, text: &[u8], out: &mut [u8]) -> written::Written {
+fn call(r: Request, text: &[u8], out: &mut [u8]) -> call_text_answer::Written {
     fill(out, 0xA5);
     let op = r.op;
     match op {
@@ -358,7 +358,7 @@ fn put_head(out: &mut [u8], h: Head) {
     put_u32(out, 20, h.work);
 }
 
-fn written_head(w: written::Written, room: usize) -> Head {
+fn written_head(w: call_text_answer::Written, room: usize) -> Head {
     Head {
         number: page::number(w),
         value: page::value(w),
@@ -369,10 +369,10 @@ fn written_head(w: written::Written, room: usize) -> Head {
     }
 }
 
-fn checked_head(c: checker::Checked) -> Head {
+fn checked_head(c: check_list::Checked) -> Head {
     Head {
-        number: checker::number(c),
-        value: checker::place(c),
+        number: check_list::number(c),
+        value: check_list::place(c),
         second: 0,
         edition: 0,
         room: 0,
@@ -380,10 +380,10 @@ fn checked_head(c: checker::Checked) -> Head {
     }
 }
 
-fn built_head(b: built::Built, room: usize, work: usize) -> Head {
+fn built_head(b: call_build_answer::Built, room: usize, work: usize) -> Head {
     Head {
-        number: built::number(b),
-        value: built::value(b),
+        number: call_build_answer::number(b),
+        value: call_build_answer::value(b),
         second: 0,
         edition: 0,
         room,
@@ -391,12 +391,12 @@ fn built_head(b: built::Built, room: usize, work: usize) -> Head {
     }
 }
 
-fn read_head(a: bundle::Answer, room: usize, work: usize) -> Head {
+fn read_head(a: bundle_read::Answer, room: usize, work: usize) -> Head {
     Head {
-        number: bundle::number(a),
-        value: bundle::value(a),
-        second: bundle::events_length(a),
-        edition: bundle::edition(a),
+        number: bundle_read::number(a),
+        value: bundle_read::value(a),
+        second: bundle_read::events_length(a),
+        edition: bundle_read::edition(a),
         room,
         work,
     }

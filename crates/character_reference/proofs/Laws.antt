@@ -18,7 +18,7 @@ use Rattle.character_reference.specs.declared.Value.{Value}
 use Rattle.character_reference.specs.declared.Value.the-variants.{Code, Broken}
 use Rattle.utf8.specs.Utf8.{charOf, replacement}
 use Rattle.character_reference.specs.Reference.{isReplaced, codeOf, areDigits, numberOf, numeralOf, namedOf, valueOf, standsFor, referenceFor, isSome, orNothing}
-use Rattle.put_char.specs.Written.{writtenOf}
+use Rattle.character_reference.specs.Written.{writtenOf}
 use Rattle.character_reference.proofs.Entries.{either, Brief, named-short}
 use Rattle.character_reference.proofs.Numbers.{inside}
 

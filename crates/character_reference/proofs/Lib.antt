@@ -1,3 +1,4 @@
+pub mod Put
 pub mod Ascent
 pub mod Beside
 pub mod Compared

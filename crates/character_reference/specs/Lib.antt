@@ -1,3 +1,4 @@
+pub mod Written
 pub mod Names
 pub mod Reference
 pub mod Table

@@ -14,7 +14,7 @@ use Rattle.character_reference.specs.declared.Value.{Value}
 use Rattle.character_reference.specs.declared.Value.the-variants.{Code, Broken}
 use Rattle.character_reference.specs.Names.{names}
 use Rattle.utf8.specs.Utf8.{charOf}
-unfoldable pub use Rattle.put_char.specs.Written.{writtenOf}
+unfoldable pub use Rattle.character_reference.specs.Written.{writtenOf}
 
 -- ---- numbers
 

@@ -1,14 +1,56 @@
-// Character references: what stands for a number or a name, in UTF-8.
+// A character written in UTF-8.
+ghost use mathlib.Core.Path.{_≡_};
+ghost use Rattle.lent.specs.Fill.{Filled};
+ghost use Rattle.utf8.specs.Utf8.{tail};
+ghost use Rattle.character_reference.specs.Written.{writtenOf};
 ghost use Prim.Native.Nat.{_≤_};
 ghost use mathlib.Core.Bool.{true};
-ghost use mathlib.Core.Path.{_≡_};
 ghost use Rattle.lent.specs.Bytes.{same};
-ghost use Rattle.lent.specs.Fill.{Filled};
-ghost use Rattle.character_reference.specs.Reference.{isReplaced, codeOf, digitValue, numeralOf};
-ghost use Rattle.character_reference.specs.Reference.{lookup, namedOf, valueOf, referenceOf, referenceFor, isSome, orNothing};
+ghost use Rattle.character_reference.specs.Reference.{isReplaced, codeOf, digitValue, numeralOf, lookup, namedOf, valueOf, referenceOf, referenceFor, isSome, orNothing};
 ghost use Rattle.character_reference.specs.Table.{orderOf, nameAt, Lies, isPackedFrom, unpackedFrom, isAscending};
 
 mod packed;
+
+// Appends the character with the code `c`, or U+FFFD where there is none.
+pub fn put_char(out: &mut [u8], at: usize, c: u32) -> usize
+    ensures { λ r. ⌜ Filled (now (out .entry)) at (writtenOf c) (now (out .exit)) r ⌝ }
+{
+    if c < 0x80 {
+        return lent::put(out, at, c as u8);
+    }
+    if c < 0x800 {
+        return lent::put_all(out, at, &[(0xC0 + c / 64) as u8, tail_of(c)]);
+    }
+    if c < 0x10000 {
+        return lent::put_all(
+            out,
+            at,
+            &[(0xE0 + c / 4096) as u8, tail_of(c / 64), tail_of(c)],
+        );
+    }
+    if c < 0x110000 {
+        return lent::put_all(
+            out,
+            at,
+            &[
+                (0xF0 + c / 262144) as u8,
+                tail_of(c / 4096),
+                tail_of(c / 64),
+                tail_of(c),
+            ],
+        );
+    }
+    lent::put_all(out, at, &[0xEF, 0xBF, 0xBD])
+}
+
+// A byte that goes on a character, with the lowest six bits of `n`.
+fn tail_of(n: u32) -> u8
+    ensures { λ r. ⌜ r ≡ tail n ⌝ }
+{
+    (0x80 + n % 64) as u8
+}
+
+// Character references: what stands for a number or a name, in UTF-8.
 
 // The newest marker before a value: 8, 9 or 10.
 pub enum Marker {
@@ -222,7 +264,7 @@ pub fn put_reference(out: &mut [u8], at: usize, names: Names, marker: Marker, s:
     ensures { λ r. ⌜ Filled (now (out .entry)) at (orNothing (referenceFor names marker (now (s .entry)))) (now (out .exit)) r ⌝ }
 {
     match value_of(names, marker, s) {
-        Value::Code(c) => put_char::put_char(out, at, c),
+        Value::Code(c) => put_char(out, at, c),
         Value::Broken => at,
     }
 }

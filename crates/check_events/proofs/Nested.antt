@@ -9,14 +9,14 @@ use lib.ListN.{length, getD}
 use Rattle.event.specs.declared.Event.{Event}
 use Rattle.event.specs.Event.{isEnter, eventAt}
 use Rattle.event.proofs.Laws.{kind-read, name-read}
-use Rattle.nesting.specs.declared.Nesting.the-variants.{At}
-use Rattle.nesting.specs.declared.Moved.{Moved}
-use Rattle.nesting.specs.declared.Moved.the-variants.{Refused, To}
-use Rattle.nesting.specs.Tag.{tagsOf}
-use Rattle.nesting.specs.Pass.{nestOf}
-use Rattle.nesting.specs.Moved.{Advances}
-use Rattle.nesting.proofs.Laws.{Inv}
-use Rattle.nesting.proofs.Arrays.{walk-stops, walk-goes}
+use Rattle.check_nesting.specs.declared.Nesting.the-variants.{At}
+use Rattle.check_nesting.specs.declared.Moved.{Moved}
+use Rattle.check_nesting.specs.declared.Moved.the-variants.{Refused, To}
+use Rattle.check_nesting.specs.Tag.{tagsOf}
+use Rattle.check_nesting.specs.Pass.{nestOf}
+use Rattle.check_nesting.specs.Moved.{Advances}
+use Rattle.check_nesting.proofs.Laws.{Inv}
+use Rattle.check_nesting.proofs.Arrays.{walk-stops, walk-goes}
 
 module _ {b ns bs : List ℕ} {d q i count : ℕ} (v : Inv b ns bs d q i) (l : count ≡ length b / 20) (h : i < count) {e : Event} (p : e ≡ eventAt b i) where
   more : i < length b / 20

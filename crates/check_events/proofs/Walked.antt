@@ -9,7 +9,7 @@ use borrow.Author.Tests.{not-true, not-false}
 use lib.ListN.{length}
 use Rattle.event.specs.declared.Event.{Event}
 use Rattle.event.specs.Event.{isEnter, eventAt, eventsOf}
-use Rattle.nesting.proofs.Laws.{Inv, all-closed, left-open}
+use Rattle.check_nesting.proofs.Laws.{Inv, all-closed, left-open}
 use Rattle.check_fields.specs.declared.Fields.the-variants as F
 use Rattle.check_fields.specs.First.{firstBreak}
 use Rattle.check_fields.specs.Fields.{fieldsHold, fieldsOf}

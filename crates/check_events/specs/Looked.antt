@@ -5,9 +5,9 @@ use mathlib.Core.List.{List, [], _∷_}
 use Prim.Native.Nat.{ℕ, _<_}
 use Rattle.event.specs.declared.Event.{Event}
 use Rattle.event.specs.Event.{countOf, isEnter, named, eventAt}
-use Rattle.nesting.specs.declared.Nesting.the-variants as N
-use Rattle.nesting.specs.Tag.{tagsOf}
-use Rattle.nesting.specs.Pass.{nestOf}
+use Rattle.check_nesting.specs.declared.Nesting.the-variants as N
+use Rattle.check_nesting.specs.Tag.{tagsOf}
+use Rattle.check_nesting.specs.Pass.{nestOf}
 use Rattle.check_fields.specs.declared.Fields.the-variants as F
 use Rattle.check_fields.specs.Fields.{fieldsOf}
 use Rattle.check_slices.specs.Slices.{slicesOf}

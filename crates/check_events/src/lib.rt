@@ -2,21 +2,21 @@
 ghost use mathlib.Core.Path.{_≡_};
 ghost use mathlib.Core.Bool.{true, false};
 ghost use lib.ListN.{length};
-ghost use Rattle.nesting.specs.Tag.{tagsOf};
-ghost use Rattle.nesting.specs.Pass.{nestOf};
-ghost use Rattle.nesting.specs.Tables.{Tables};
-ghost use Rattle.nesting.specs.declared.Nesting.the-variants.{At};
+ghost use Rattle.check_nesting.specs.Tag.{tagsOf};
+ghost use Rattle.check_nesting.specs.Pass.{nestOf};
+ghost use Rattle.check_nesting.specs.Tables.{Tables};
+ghost use Rattle.check_nesting.specs.declared.Nesting.the-variants.{At};
 ghost use Rattle.check_slices.specs.Slices.{nothingSeen, withSequence, seenBehind, eventHolds};
 ghost use Rattle.check_slices.specs.Counts.{noneCounted, Few, countedBehind, countHolds};
 ghost use Rattle.check_events.specs.Walk.{Step, placeOf, IdleEnter, IdleExit, FieldsTo, Answers, Ends};
 ghost use Rattle.check_events.specs.Looked.{Looks};
 use character_reference::Marker;
+use check_nesting::Moved;
 use check_slices::Counts;
 use check_slices::Seen;
 use check_slices::Slices;
 use event::Event;
 use event::EventIndex;
-use nesting::Moved;
 
 // What 5 and 6 say, and whether there may be a link, an image or a call.
 pub struct Passed {
@@ -216,7 +216,16 @@ fn walk(
             return Looked::Field(i);
         }
         let enters = e.is_enter();
-        let moved = nesting::advance(states, entries, names, behind, depth, here, enters, e.name);
+        let moved = check_nesting::advance(
+            states,
+            entries,
+            names,
+            behind,
+            depth,
+            here,
+            enters,
+            e.name,
+        );
         let Moved::To(d, h) = moved else {
             return unnested(text, events, i);
         };
@@ -250,7 +259,7 @@ fn walk(
 pub fn look(text: &[u8], events: &[u8]) -> Looked
     ensures { λ r. ⌜ Looks (now (text .entry)) (now (events .entry)) r ⌝ }
 {
-    let tables = nesting::tables();
+    let tables = check_nesting::tables();
     let states = tables.states;
     let entries = tables.entries;
     let mut names = [0u8; 64];

@@ -5,8 +5,8 @@ use Prim.Native.Nat.{ℕ, _+_, _-_, _≤_}
 use native.Mathlib.Omega.{arith}
 use lib.ListN.{length, take, drop}
 use lib.Seq.{take-add, take-length}
-use Rattle.bundle.specs.declared.Answer.{Answer}
-use Rattle.bundle.specs.Read.{numberOf, answerOf}
+use Rattle.bundle_read.specs.declared.Answer.{Answer}
+use Rattle.bundle_read.specs.Read.{numberOf, answerOf}
 use Rattle.bundle_parts.specs.declared.Progress.{Progress}
 use Rattle.bundle_parts.specs.declared.Progress.the-variants.{More, Done}
 use Rattle.bundle_parts.specs.declared.Reader.{Reader}

@@ -2,17 +2,17 @@
 use mathlib.Core.Path.{_≡_, ap, _∙_}
 use mathlib.Core.List.{List}
 use Prim.Native.Nat.{ℕ, _+_, _^_}
-use Rattle.bundle.specs.declared.Answer.{Answer}
-use Rattle.bundle.specs.Read.{numberOf, HasRead}
-use Rattle.checker.specs.declared.Checked.{Checked}
-use Rattle.checker.specs.Checked as Checked
-use Rattle.checker.specs.Checked.{checkOf, Checks}
-use Rattle.written.specs.declared.Written.{Written}
-use Rattle.written.specs.Written.{Wrote}
+use Rattle.bundle_read.specs.declared.Answer.{Answer}
+use Rattle.bundle_read.specs.Read.{numberOf, HasRead}
+use Rattle.check_list.specs.declared.Checked.{Checked}
+use Rattle.check_list.specs.Checked as Checked
+use Rattle.check_list.specs.Checked.{checkOf, Checks}
+use Rattle.call_text_answer.specs.declared.Written.{Written}
+use Rattle.call_text_answer.specs.Written.{Wrote}
 use Rattle.machine.specs.declared.Options.{Options}
-use Rattle.built.specs.declared.Built.{Built}
-use Rattle.built.specs.declared.Built.the-variants.{Refused}
-use Rattle.build.specs.Build.{Builds}
+use Rattle.call_build_answer.specs.declared.Built.{Built}
+use Rattle.call_build_answer.specs.declared.Built.the-variants.{Refused}
+use Rattle.call_build.specs.Build.{Builds}
 use Rattle.exports.specs.Packed.{packed, HasNumber, Packs, plain, packedBuilt, PacksBuilt}
 
 pub packs : {text result d e : List ℕ} {w : Written} {r : ℕ} → Wrote text result d e w → r ≡ packed w → Packs text result d e r

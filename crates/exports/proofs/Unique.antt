@@ -3,11 +3,11 @@ use mathlib.Core.Path.{_≡_, sym, ap, _∙_}
 use mathlib.Core.List.{List}
 use Prim.Native.Nat.{ℕ}
 use Rattle.lent.specs.Fill.{Filled}
-use Rattle.checker.specs.Checked.{checkOf, numberOf}
-use Rattle.written.proofs.Laws as W
-use Rattle.bundle.specs.Read as R
-use Rattle.bundle.proofs.Bundle as L
-use Rattle.build.proofs.Exactly as B
+use Rattle.check_list.specs.Checked.{checkOf, numberOf}
+use Rattle.call_text_answer.proofs.Laws as W
+use Rattle.bundle_read.specs.Read as R
+use Rattle.bundle_read.proofs.Bundle as L
+use Rattle.call_build.proofs.Exactly as B
 use Rattle.exports.specs.Packed.{packed, HasNumber, HasNumberLate, Packs, packedBuilt, PacksBuilt}
 
 -- page_escape, page_sanitize

@@ -4,19 +4,19 @@ use mathlib.Core.Bool.{false}
 use mathlib.Core.List.{List}
 use Prim.Native.Nat.{ℕ, _+_, _^_}
 use lib.ListN.{length}
-use Rattle.bundle.specs.declared.Answer.{Answer}
-use Rattle.bundle.specs.Read
+use Rattle.bundle_read.specs.declared.Answer.{Answer}
+use Rattle.bundle_read.specs.Read
 use Rattle.bundle_parts.specs.Late.{callLate}
-use Rattle.written.specs.declared.Written.{Written}
-use Rattle.written.specs.declared.Written.the-variants.{Length, TooLong, NotUtf8, NoRoom}
-use Rattle.written.specs.Written.{numberOf, Wrote}
+use Rattle.call_text_answer.specs.declared.Written.{Written}
+use Rattle.call_text_answer.specs.declared.Written.the-variants.{Length, TooLong, NotUtf8, NoRoom}
+use Rattle.call_text_answer.specs.Written.{numberOf, Wrote}
 use Rattle.machine.specs.declared.Options.{Options}
 use Rattle.machine.specs.declared.Ending.the-variants.{Lf}
 use Rattle.character_reference.specs.declared.Names.the-variants.{Html5}
-use Rattle.built.specs.declared.Built.{Built}
-use Rattle.built.specs.declared.Built.the-variants.{Page, Refused, WorkFull, PageFull}
-use Rattle.built.specs.Built as B
-use Rattle.build.specs.Build.{Builds}
+use Rattle.call_build_answer.specs.declared.Built.{Built}
+use Rattle.call_build_answer.specs.declared.Built.the-variants.{Page, Refused, WorkFull, PageFull}
+use Rattle.call_build_answer.specs.Built as B
+use Rattle.call_build.specs.Build.{Builds}
 
 abbrev pub packed : Written → ℕ
 packed (Length n) = n

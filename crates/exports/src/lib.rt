@@ -4,14 +4,14 @@ ghost use mathlib.Core.Path.{_≡_};
 ghost use Rattle.lent.specs.Fill.{Filled};
 ghost use Rattle.encode.specs.Encode.{encodeOf};
 ghost use Rattle.sanitize_uri.specs.Url.{sanitizeOf};
-ghost use Rattle.checker.specs.Checked.{checkOf, numberOf};
+ghost use Rattle.check_list.specs.Checked.{checkOf, numberOf};
 ghost use Prim.Native.Nat.{_+_, _^_, _<_};
 ghost use lib.ListN.{length};
 ghost use Rattle.exports.specs.Packed.{packed, HasNumber, HasNumberLate, Packs, packedBuilt, plain, PacksBuilt};
 ghost use Rattle.exports.specs.Cut.{Cut};
-use built::Built;
 use bundle_parts::Progress;
 use bundle_parts::Reader;
+use call_build_answer::Built;
 use character_reference::Names;
 use machine::Ending;
 use machine::Options;
@@ -55,7 +55,7 @@ pub extern "C" fn page_check(text: &[u8], events: &[u8]) -> u32
     ensures { λ r. ⌜ r ≡ numberOf (checkOf (now (text .entry)) (now (events .entry))) ⌝ }
 {
     let checked = page::check(text, events);
-    checker::number(checked)
+    check_list::number(checked)
 }
 
 // Builds a page, all options off and LF for a text without line endings.
@@ -85,7 +85,7 @@ fn pack_built(b: Built) -> u64
 {
     match b {
         Built::Page(n) => n as u64,
-        Built::Refused(c) => pack_number(checker::number(c)),
+        Built::Refused(c) => pack_number(check_list::number(c)),
         Built::WorkFull(_) => 0x8000000000000008,
         Built::PageFull(_) => 0x8000000000000009,
     }
@@ -103,7 +103,7 @@ pub extern "C" fn leaf_read_bundle(bundle: &[u8], text: &mut [u8], events: &mut 
     ensures { λ r. ⌜ HasNumber (now (bundle .entry)) (now (text .entry)) (now (events .entry)) (now (text .exit)) (now (events .exit)) r ⌝ }
 {
     let answer = page::read_bundle(bundle, text, events);
-    bundle::number(answer)
+    bundle_read::number(answer)
 }
 
 // Reads a bundle in parts of so many bytes, then says the end; the answer is its number, or 255, which it never is.
@@ -122,7 +122,7 @@ pub extern "C" fn leaf_read_parts(
     let Progress::Done(answer) = so_far else {
         return 255;
     };
-    bundle::number(answer)
+    bundle_read::number(answer)
 }
 
 // Parts of so many bytes, a byte where it is none.
@@ -132,7 +132,7 @@ fn feed_all(bundle: &[u8], size: usize, text: &mut [u8], events: &mut [u8]) -> R
     let mut reader = page::bundle_reader();
     let mut at = 0;
     while at < bundle.len() {
-        let end = at + block::least(at_least_one(size), bundle.len() - at);
+        let end = at + bundle_block::least(at_least_one(size), bundle.len() - at);
         reader = page::feed_bundle(reader, &bundle[at..end], text, events);
         at = end;
     }
@@ -149,13 +149,13 @@ fn at_least_one(n: usize) -> usize
 }
 
 // The length, or 2^63 and the refusal's number.
-fn pack(w: written::Written) -> u64
+fn pack(w: call_text_answer::Written) -> u64
     ensures { λ r. ⌜ r ≡ packed w ⌝ }
 {
     match w {
-        written::Written::Length(n) => n as u64,
-        written::Written::TooLong => 0x8000000000000001,
-        written::Written::NotUtf8 => 0x8000000000000002,
-        written::Written::NoRoom => 0x8000000000000009,
+        call_text_answer::Written::Length(n) => n as u64,
+        call_text_answer::Written::TooLong => 0x8000000000000001,
+        call_text_answer::Written::NotUtf8 => 0x8000000000000002,
+        call_text_answer::Written::NoRoom => 0x8000000000000009,
     }
 }

@@ -7,12 +7,12 @@ use native.Mathlib.Omega.{arith}
 use lib.ListN.{length, take, drop, length-append}
 use lib.Seq.{take-at}
 use Rattle.lent.specs.Fill.{zeros}
-use Rattle.block.specs.declared.Refusal.{Refusal}
+use Rattle.bundle_block.specs.declared.Refusal.{Refusal}
 use Rattle.machine.specs.declared.Options.{Options}
-use Rattle.bundle.specs.declared.Answer.{Answer}
-use Rattle.bundle.specs.declared.Answer.the-variants.{Bundle, Refused}
-use Rattle.bundle.specs.Bundle.{Meaning, says, refused}
-use Rattle.bundle.specs.Read as R
+use Rattle.bundle_read.specs.declared.Answer.{Answer}
+use Rattle.bundle_read.specs.declared.Answer.the-variants.{Bundle, Refused}
+use Rattle.bundle_read.specs.Bundle.{Meaning, says, refused}
+use Rattle.bundle_read.specs.Read as R
 use Rattle.bundle_parts.specs.declared.Progress.{Progress}
 use Rattle.bundle_parts.specs.declared.Progress.the-variants.{More, Done}
 use Rattle.bundle_parts.specs.declared.Reader.{Reader}
@@ -21,12 +21,12 @@ use Rattle.bundle_parts.specs.Late.{callLate}
 use Rattle.bundle_parts.specs.Parts.{joined, fedOf, HasReadLate}
 use Rattle.bundle_parts.proofs.Joined.{fed-snoc}
 use Rattle.bundle_parts.proofs.Parts.{ended}
-use Rattle.built.specs.declared.Built.{Built}
-use Rattle.built.specs.declared.Built.the-variants as B
-use Rattle.build.specs.Build.{Builds}
+use Rattle.call_build_answer.specs.declared.Built.{Built}
+use Rattle.call_build_answer.specs.declared.Built.the-variants as B
+use Rattle.call_build.specs.Build.{Builds}
 use Rattle.event.specs.declared.EventIndex.{EventIndex}
-use Rattle.checker.specs.declared.Checked.{Checked}
-use Rattle.checker.specs.Checked as C
+use Rattle.check_list.specs.declared.Checked.{Checked}
+use Rattle.check_list.specs.Checked as C
 use Rattle.notepage.specs.declared.Shown.{Shown}
 use Rattle.notepage.specs.declared.Shown.the-variants as S
 use Rattle.notepage.specs.declared.Turn.{Turn}

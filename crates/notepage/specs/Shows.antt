@@ -7,16 +7,16 @@ use lib.ListN.{length}
 use Rattle.machine.specs.declared.Options.{Options}
 use Rattle.machine.specs.declared.Ending.the-variants.{Lf}
 use Rattle.character_reference.specs.declared.Names.the-variants.{Html5}
-use Rattle.bundle.specs.Bundle.{Meaning, says, refused}
-use Rattle.bundle.specs.Read as R
+use Rattle.bundle_read.specs.Bundle.{Meaning, says, refused}
+use Rattle.bundle_read.specs.Read as R
 use Rattle.bundle_parts.specs.declared.Reader.{Reader}
 use Rattle.bundle_parts.specs.Feed.{standOf, startOf}
 use Rattle.bundle_parts.specs.Late.{callLate}
 use Rattle.bundle_parts.specs.Parts.{joined, fedOf}
-use Rattle.built.specs.declared.Built.{Built}
-use Rattle.built.specs.declared.Built.the-variants as B
-use Rattle.built.specs.Built.{numberOf, valueOf}
-use Rattle.build.specs.Build.{Ends}
+use Rattle.call_build_answer.specs.declared.Built.{Built}
+use Rattle.call_build_answer.specs.declared.Built.the-variants as B
+use Rattle.call_build_answer.specs.Built.{numberOf, valueOf}
+use Rattle.call_build.specs.Build.{Ends}
 use Rattle.notepage.specs.declared.Shown.{Shown}
 use Rattle.notepage.specs.declared.Shown.the-variants.{Page, Refused, Unread}
 

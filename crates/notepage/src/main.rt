@@ -5,10 +5,10 @@ ghost use mathlib.Core.Path.{_≡_};
 ghost use lib.ListN.{length, take};
 ghost use Rattle.notepage.specs.Came.{CameTo, Turned, noBytes};
 ghost use Rattle.notepage.specs.Shows.{Shows, ShowsEnd, ShowsNote, offOf, shownOf};
-use built::Built;
-use bundle::Answer;
 use bundle_parts::Progress;
 use bundle_parts::Reader;
+use bundle_read::Answer;
+use call_build_answer::Built;
 use character_reference::Names;
 use libc::STDERR_FILENO;
 use libc::STDIN_FILENO;
@@ -142,7 +142,7 @@ fn page_of(
         return Shown::Unread;
     };
     match read {
-        Answer::Refused(_) => Shown::Refused(bundle::number(read), bundle::value(read)),
+        Answer::Refused(_) => Shown::Refused(bundle_read::number(read), bundle_read::value(read)),
         Answer::Bundle {
             text: n,
             events: m,
@@ -205,7 +205,7 @@ fn shown_of(b: Built) -> Shown
 {
     match b {
         Built::Page(n) => Shown::Page(n),
-        Built::Refused(c) => Shown::Refused(checker::number(c), checker::place(c)),
+        Built::Refused(c) => Shown::Refused(check_list::number(c), check_list::place(c)),
         Built::WorkFull(i) => Shown::Refused(8, i.0),
         Built::PageFull(i) => Shown::Refused(9, i.0),
     }

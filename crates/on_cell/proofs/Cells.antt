@@ -16,11 +16,11 @@ use Rattle.machine.specs.Command.{Command, _▸_, whether, missingCells, repeat
 use Rattle.machine.specs.Words.{put, alignment, lineEndingIfNeeded, nextColumn, buffer, drop}
 use Rattle.machine.specs.OnTable.{onEnterGfmTableCell, onExitGfmTableCell}
 use Rattle.machine.proofs.Outcomes.{first-goes, need-goes}
-use Rattle.bounded.specs.Within.{within}
-use Rattle.bounded.proofs.Bounds.{done}
-use Rattle.context.specs.declared.Context.{Context}
-use Rattle.context.specs.Rel.{Rel, Any, Keeps, Sets}
-use Rattle.table.specs.Table.{Lacks}
+use Rattle.machine_bounded.specs.Within.{within}
+use Rattle.machine_bounded.proofs.Bounds.{done}
+use Rattle.state_context.specs.declared.Context.{Context}
+use Rattle.state_context.specs.Rel.{Rel, Any, Keeps, Sets}
+use Rattle.on_table.specs.Table.{Lacks}
 use Rattle.on_cell.specs.Private.{cellName, openingCell, closingCell, phantomCell, AddsCell}
 use Rattle.on_cell.proofs.Leaves.{leaves-seq, leaves-whether, leaves-put, leaves-line, leaves-alignment}
 

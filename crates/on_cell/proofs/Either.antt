@@ -7,9 +7,9 @@ use Rattle.machine.specs.Turn.{Turn}
 use Rattle.machine.specs.Test.{Test, test}
 use Rattle.machine.specs.Command.{Command, whether}
 use Rattle.machine.proofs.Outcomes.{first-goes}
-use Rattle.bounded.specs.Within.{within}
-use Rattle.context.specs.declared.Context.{Context}
-use Rattle.context.specs.Rel.{Keeps, Takes, Opens, Ends, Tells}
+use Rattle.machine_bounded.specs.Within.{within}
+use Rattle.state_context.specs.declared.Context.{Context}
+use Rattle.state_context.specs.Rel.{Keeps, Takes, Opens, Ends, Tells}
 
 module _ {View : Turn → Type 0} where
   pub opens-none : {d : Command} {c r : Context} {w o w′ o′ : List ℕ} {st : List ℕ} → Keeps View d c w o r w′ o′ → Opens View d c w st o r w′ st o′

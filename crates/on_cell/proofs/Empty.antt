@@ -14,13 +14,13 @@ use Rattle.machine.specs.Test.{is, test}
 use Rattle.machine.specs.Command.{Command, _▸_, whether, exec}
 use Rattle.machine.specs.Words.{put}
 use Rattle.machine.proofs.Outcomes.{first-goes}
-use Rattle.bounded.specs.Within.{within}
-use Rattle.bounded.proofs.Bounds.{done}
-use Rattle.buffers.proofs.Laws.{push-nil, push-cons}
-use Rattle.context.specs.declared.Context.{Context}
-use Rattle.context.specs.Rel.{Any, Keeps, Pushes, Tells}
-use Rattle.context.proofs.Laws.{pushed}
-use Rattle.context.proofs.Commands.{flag-told}
+use Rattle.machine_bounded.specs.Within.{within}
+use Rattle.machine_bounded.proofs.Bounds.{done}
+use Rattle.state_buffers.proofs.Laws.{push-nil, push-cons}
+use Rattle.state_context.specs.declared.Context.{Context}
+use Rattle.state_context.specs.Rel.{Any, Keeps, Pushes, Tells}
+use Rattle.state_context.proofs.Laws.{pushed}
+use Rattle.state_context.proofs.Commands.{flag-told}
 use Rattle.on_cell.specs.Private.{closingCell}
 
 push-join : (a b : List ℕ) (s : State) → push b (push a s) ≡ push (a ++ b) s

@@ -14,10 +14,10 @@ use Rattle.machine.specs.Test.{Test, test}
 use Rattle.machine.specs.Command.{Command, _▸_, whether, exec}
 use Rattle.machine.specs.Words.{put, alignment, lineEndingIfNeeded}
 use Rattle.machine.proofs.Outcomes.{first-goes}
-use Rattle.bounded.specs.Within.{within}
-use Rattle.bounded.proofs.Bounds.{done}
-use Rattle.context.proofs.Laws.{pushed}
-use Rattle.table.proofs.Asked.{went-aligned}
+use Rattle.machine_bounded.specs.Within.{within}
+use Rattle.machine_bounded.proofs.Bounds.{done}
+use Rattle.state_context.proofs.Laws.{pushed}
+use Rattle.on_table.proofs.Asked.{went-aligned}
 
 pub record Leaves (d : Command) : Type 0 where
   pub leaves : (t : Turn) (s u : State) → within d t s ≡ go u → u .table ≡ s .table

@@ -11,9 +11,9 @@ use Rattle.machine.specs.Test.{is, isPastColumns, test}
 use Rattle.machine.specs.Command.{Command, _▸_, whether}
 use Rattle.machine.specs.Words.{put, alignment, lineEndingIfNeeded}
 use Rattle.machine.specs.OnTable.{onEnterGfmTableCell, onExitGfmTableCell}
-use Rattle.bounded.specs.Within.{within}
-use Rattle.context.specs.declared.Context.{Context}
-use Rattle.context.specs.Rel.{Rel}
+use Rattle.machine_bounded.specs.Within.{within}
+use Rattle.state_context.specs.declared.Context.{Context}
+use Rattle.state_context.specs.Rel.{Rel}
 
 abbrev pub cellName : Command
 cellName = whether (is head) (put "<th") (put "<td")

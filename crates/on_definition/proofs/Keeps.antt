@@ -15,27 +15,27 @@ use Rattle.machine.specs.Media.{ownOf, define}
 use Rattle.machine.specs.Command.{_▸_, exec}
 use Rattle.machine.specs.Words.{keepDefinition, drop}
 use Rattle.machine.proofs.Outcomes.{first-goes}
-use Rattle.bounded.specs.Within.{within}
-use Rattle.bounded.proofs.Bounds.{done, fits}
+use Rattle.machine_bounded.specs.Within.{within}
+use Rattle.machine_bounded.proofs.Bounds.{done, fits}
 use Rattle.regions.specs.Regions.{regionAt}
-use Rattle.context.specs.declared.Context.{Context}
-use Rattle.context.specs.Rel.{Ends}
-use Rattle.links.specs.declared.Links.{Links}
-use Rattle.links.specs.declared.Piece as Links
-use Rattle.links.specs.declared.Span.{Span}
-use Rattle.links.specs.declared.Label.{Label}
-use Rattle.links.specs.declared.Label.the-variants as L
-use Rattle.links.specs.Links.{Linked, Closes, spanIs, labelOf}
-use Rattle.kept.specs.declared.Kept.{Kept}
-use Rattle.kept.specs.Kept.{Piece, Keeps}
-use Rattle.kept.specs.Contracts.{KeepsDefinition}
-use Rattle.kept.proofs.Labels.{label-is}
-use Rattle.kept.proofs.Lists.{long-more, part-same}
-use Rattle.whole.specs.declared.Whole.{Whole}
-use Rattle.whole.specs.Whole.{Roomy, withLinks, withKept, withContext}
-use Rattle.whole.proofs.Parts.{Alike, rel-alike, linked-same, keeps-same}
-use Rattle.whole.proofs.Media.{cc-go, newest-there}
-use Rattle.show.proofs.Steady.{quiet-steady, room-in, room-out}
+use Rattle.state_context.specs.declared.Context.{Context}
+use Rattle.state_context.specs.Rel.{Ends}
+use Rattle.state_media.specs.declared.Links.{Links}
+use Rattle.state_media.specs.declared.Piece as Links
+use Rattle.state_media.specs.declared.Span.{Span}
+use Rattle.state_media.specs.declared.Label.{Label}
+use Rattle.state_media.specs.declared.Label.the-variants as L
+use Rattle.state_media.specs.Links.{Linked, Closes, spanIs, labelOf}
+use Rattle.state_kept.specs.declared.Kept.{Kept}
+use Rattle.state_kept.specs.Kept.{Piece, Keeps}
+use Rattle.state_kept.specs.Contracts.{KeepsDefinition}
+use Rattle.state_kept.proofs.Labels.{label-is}
+use Rattle.state_kept.proofs.Lists.{long-more, part-same}
+use Rattle.state_whole.specs.declared.Whole.{Whole}
+use Rattle.state_whole.specs.Whole.{Roomy, withLinks, withKept, withContext}
+use Rattle.state_whole.proofs.Parts.{Alike, rel-alike, linked-same, keeps-same}
+use Rattle.state_whole.proofs.Media.{cc-go, newest-there}
+use Rattle.write_held.proofs.Steady.{quiet-steady, room-in, room-out}
 use Rattle.on_link.proofs.Lifted.{lifts-ends}
 use Rattle.on_definition.specs.Definitions.{Reads, OnDefinitions}
 use Rattle.on_definition.specs.Private.{ownPiece, textPiece, wordOf, KeepsNewest, KeepsAt}

@@ -9,18 +9,18 @@ use Rattle.machine.specs.State as State
 use Rattle.machine.specs.State.{State, noDestination, own, defined}
 use Rattle.machine.specs.Media.{ownOf}
 use Rattle.regions.specs.Regions.{regionAt}
-use Rattle.links.specs.declared.Links.{Links}
-use Rattle.links.specs.declared.Piece as Links
-use Rattle.links.specs.declared.Span.{Span}
-use Rattle.links.specs.declared.Text.{Text}
-use Rattle.links.specs.declared.Text.the-variants as T
-use Rattle.links.specs.declared.Label.{Label}
-use Rattle.links.specs.declared.Label.the-variants as L
-use Rattle.links.specs.declared.Destination.{Destination}
-use Rattle.links.specs.declared.Destination.the-variants as D
-use Rattle.links.specs.Links.{DestinationIs, TextIs}
-use Rattle.kept.specs.Kept.{Piece, Optional, orEmpty}
-use Rattle.whole.proofs.Shown.{part-of-region}
+use Rattle.state_media.specs.declared.Links.{Links}
+use Rattle.state_media.specs.declared.Piece as Links
+use Rattle.state_media.specs.declared.Span.{Span}
+use Rattle.state_media.specs.declared.Text.{Text}
+use Rattle.state_media.specs.declared.Text.the-variants as T
+use Rattle.state_media.specs.declared.Label.{Label}
+use Rattle.state_media.specs.declared.Label.the-variants as L
+use Rattle.state_media.specs.declared.Destination.{Destination}
+use Rattle.state_media.specs.declared.Destination.the-variants as D
+use Rattle.state_media.specs.Links.{DestinationIs, TextIs}
+use Rattle.state_kept.specs.Kept.{Piece, Optional, orEmpty}
+use Rattle.state_whole.proofs.Shown.{part-of-region}
 use Rattle.on_definition.specs.Private.{orElse, ownPiece, textPiece, wordOf}
 
 pub piece-nowhere : {d : Destination} → d ≡ D.Nowhere → record { place = 0; length = 0 } ≡ ownPiece d

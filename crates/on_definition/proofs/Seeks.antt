@@ -17,18 +17,18 @@ use Rattle.machine.specs.Media.{definedAt, definitionLabels}
 use Rattle.machine.specs.Totals.{kept}
 use Rattle.machine.proofs.Outcomes.{never, first-goes}
 use Rattle.regions.specs.Regions.{regionAt}
-use Rattle.links.specs.declared.Links.{Links}
-use Rattle.links.specs.declared.Span.{Span}
-use Rattle.links.specs.declared.Label.{Label}
-use Rattle.links.specs.declared.Label.the-variants as L
-use Rattle.links.specs.declared.Destination.{Destination}
-use Rattle.links.specs.Links.{MediaIs, Leads, spanIs, labelOf}
-use Rattle.kept.specs.Contracts.{FindsDefinition}
-use Rattle.kept.proofs.Labels.{label-is}
-use Rattle.whole.specs.declared.Whole.{Whole}
-use Rattle.whole.specs.Whole.{World, Built, Held, withLinks}
-use Rattle.whole.proofs.Parts.{rel-alike, keeps-same}
-use Rattle.show.proofs.Steady.{room-in}
+use Rattle.state_media.specs.declared.Links.{Links}
+use Rattle.state_media.specs.declared.Span.{Span}
+use Rattle.state_media.specs.declared.Label.{Label}
+use Rattle.state_media.specs.declared.Label.the-variants as L
+use Rattle.state_media.specs.declared.Destination.{Destination}
+use Rattle.state_media.specs.Links.{MediaIs, Leads, spanIs, labelOf}
+use Rattle.state_kept.specs.Contracts.{FindsDefinition}
+use Rattle.state_kept.proofs.Labels.{label-is}
+use Rattle.state_whole.specs.declared.Whole.{Whole}
+use Rattle.state_whole.specs.Whole.{World, Built, Held, withLinks}
+use Rattle.state_whole.proofs.Parts.{rel-alike, keeps-same}
+use Rattle.write_held.proofs.Steady.{room-in}
 use Rattle.on_definition.specs.Definitions.{Known}
 use Rattle.on_definition.specs.Private.{SeeksAt, SeeksLabel, soughtOf, orElse}
 

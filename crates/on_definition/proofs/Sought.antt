@@ -18,10 +18,10 @@ use Rattle.machine.specs.Totals.{size, mediaSizes, held, kept}
 use Rattle.machine.specs.Command.{exec}
 use Rattle.machine.specs.Words.{seekDefinition}
 use Rattle.machine.proofs.Outcomes.{never, first-goes}
-use Rattle.bounded.specs.Within.{within}
-use Rattle.bounded.proofs.Bounds.{done}
-use Rattle.whole.proofs.Media.{cc-go, newest-there}
-use Rattle.show.proofs.Steady.{Steady}
+use Rattle.machine_bounded.specs.Within.{within}
+use Rattle.machine_bounded.proofs.Bounds.{done}
+use Rattle.state_whole.proofs.Media.{cc-go, newest-there}
+use Rattle.write_held.proofs.Steady.{Steady}
 use Rattle.on_definition.specs.Private.{Sought}
 
 pub record SoughtIs (t : Turn) (s u : State) : Type 0 where

@@ -10,11 +10,11 @@ use Rattle.machine.specs.Media.{destinationOf}
 use Rattle.machine.specs.Totals.{kept}
 use Rattle.machine.specs.Words.{seekDefinition}
 use Rattle.regions.specs.Regions.{regionAt}
-use Rattle.links.specs.declared.Piece.{Piece}
-use Rattle.links.specs.declared.Destination.{Destination}
-use Rattle.links.specs.declared.Destination.the-variants as D
-use Rattle.links.specs.Links.{DestinationIs}
-use Rattle.whole.specs.declared.Whole.{Whole}
+use Rattle.state_media.specs.declared.Piece.{Piece}
+use Rattle.state_media.specs.declared.Destination.{Destination}
+use Rattle.state_media.specs.declared.Destination.the-variants as D
+use Rattle.state_media.specs.Links.{DestinationIs}
+use Rattle.state_whole.specs.declared.Whole.{Whole}
 use Rattle.on_definition.specs.Definitions.{Known, FromDefinitions}
 use Rattle.on_definition.specs.Private.{SeeksLabel}
 use Rattle.on_definition.proofs.Sought.{sought-there}

@@ -4,9 +4,9 @@ use mathlib.Core.List.{List}
 use Prim.Native.Nat.{ℕ, _≤_}
 use Rattle.machine.specs.Turn.{Turn}
 use Rattle.machine.specs.Command.{Command}
-use Rattle.kept.specs.Kept.{tables}
-use Rattle.whole.specs.declared.Whole.{Whole}
-use Rattle.whole.specs.Whole.{World, Held, Handles, withWork, withTables}
+use Rattle.state_kept.specs.Kept.{tables}
+use Rattle.state_whole.specs.declared.Whole.{Whole}
+use Rattle.state_whole.specs.Whole.{World, Held, Handles, withWork, withTables}
 
 -- what is held and what is kept have room
 pub record Known (b : Whole) : Type 0 where

@@ -12,18 +12,18 @@ use Rattle.machine.specs.Media as M
 use Rattle.machine.specs.Media.{destinationOf, definedAt, definitionLabels}
 use Rattle.machine.specs.Words.{keepDefinition}
 use Rattle.normalize_identifier.specs.Search.{firstSame}
-use Rattle.links.specs.declared.Piece.{Piece}
-use Rattle.links.specs.declared.Text.{Text}
-use Rattle.links.specs.declared.Text.the-variants as T
-use Rattle.links.specs.declared.Span.{Span}
-use Rattle.links.specs.declared.Label.{Label}
-use Rattle.links.specs.declared.Label.the-variants as L
-use Rattle.links.specs.declared.Destination.{Destination}
-use Rattle.links.specs.declared.Destination.the-variants as D
-use Rattle.links.specs.declared.Media.{Media}
-use Rattle.links.specs.Links.{spanIs, labelOf}
-use Rattle.whole.specs.declared.Whole.{Whole}
-use Rattle.whole.specs.Whole.{World, Built, Held, Handles, withWork}
+use Rattle.state_media.specs.declared.Piece.{Piece}
+use Rattle.state_media.specs.declared.Text.{Text}
+use Rattle.state_media.specs.declared.Text.the-variants as T
+use Rattle.state_media.specs.declared.Span.{Span}
+use Rattle.state_media.specs.declared.Label.{Label}
+use Rattle.state_media.specs.declared.Label.the-variants as L
+use Rattle.state_media.specs.declared.Destination.{Destination}
+use Rattle.state_media.specs.declared.Destination.the-variants as D
+use Rattle.state_media.specs.declared.Media.{Media}
+use Rattle.state_media.specs.Links.{spanIs, labelOf}
+use Rattle.state_whole.specs.declared.Whole.{Whole}
+use Rattle.state_whole.specs.Whole.{World, Built, Held, Handles, withWork}
 use Rattle.on_definition.specs.Definitions.{Known, Reads, withDefinitions}
 
 -- ---- sought

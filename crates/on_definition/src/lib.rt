@@ -3,17 +3,17 @@ ghost use mathlib.Core.Path.{_≡_};
 ghost use Prim.Native.Nat.{suc, min, _+_};
 ghost use Rattle.machine.specs.Words.{seekDefinition, keepDefinition};
 ghost use Rattle.machine.specs.OnMedia.{onExitDefinition};
-ghost use Rattle.whole.specs.Whole.{Held, Roomy};
+ghost use Rattle.state_whole.specs.Whole.{Held, Roomy};
 ghost use Rattle.on_definition.specs.Definitions.{Known, FromDefinitions, OnDefinitions};
 ghost use Rattle.on_definition.specs.Private.{soughtOf, ownPiece, textPiece, wordOf, SeeksAt, SeeksLabel, KeepsAt, KeepsNewest};
-use links::Destination;
-use links::Label;
-use links::Media;
-use links::Piece;
-use links::Span;
-use links::Text;
 use normalize_identifier::Found;
-use whole::Whole;
+use state_media::Destination;
+use state_media::Label;
+use state_media::Media;
+use state_media::Piece;
+use state_media::Span;
+use state_media::Text;
+use state_whole::Whole;
 
 // ---- sought
 
@@ -34,12 +34,12 @@ fn seek_at(b: Whole, p: Span, text: &[u8], definitions: &[usize]) -> Whole
 {
     let from = p.from.0;
     let to = p.to.0;
-    let found = kept::find_definition(b.kept, text, from, to, definitions);
+    let found = state_kept::find_definition(b.kept, text, from, to, definitions);
     match found {
         Found::Nothing => b,
         Found::At(k) => {
             let mut r = b;
-            r.links = links::lead_to(b.links, k);
+            r.links = state_media::lead_to(b.links, k);
             r
         }
     }
@@ -135,7 +135,7 @@ fn keep_at(b: Whole, p: Span, text: &[u8], work: &mut [u8], definitions: &mut [u
     let place = at_most(own.place);
     let title_place = at_most(title.place);
     let mut r = b;
-    r.kept = kept::keep_definition(
+    r.kept = state_kept::keep_definition(
         b.kept,
         text,
         p.from.0,
@@ -147,7 +147,7 @@ fn keep_at(b: Whole, p: Span, text: &[u8], work: &mut [u8], definitions: &mut [u
         work,
         definitions,
     );
-    r.links = links::close_media(b.links);
+    r.links = state_media::close_media(b.links);
     r
 }
 
@@ -173,6 +173,6 @@ pub fn on_exit_definition(
     ensures { λ r. ⌜ OnDefinitions Roomy onExitDefinition b (now (text .entry)) (now (work .entry)) (now (starts .entry)) (now (definitions .entry)) r (now (work .exit)) (now (definitions .exit)) ⌝ }
 {
     let mut r = b;
-    r.context = context::drop(b.context, starts);
+    r.context = state_context::drop(b.context, starts);
     keep_newest(r, text, work, definitions)
 }

@@ -5,78 +5,78 @@ ghost use Rattle.machine.specs.Set.{slurp};
 ghost use Rattle.machine.specs.Test.{isFirstFence, isFencedOnce, isInContainer, isBehindFence, hasSeenData, isFenceMissing};
 ghost use Rattle.machine.specs.Command.{_▸_};
 ghost use Rattle.machine.specs.Words.{when, unless, put, set, lineEnding, lineEndingIfNeeded};
-ghost use Rattle.context.specs.Rel.{Any, Keeps, Takes, FenceBefore};
-use context::Answer;
-use context::Context;
+ghost use Rattle.state_context.specs.Rel.{Any, Keeps, Takes, FenceBefore};
+use state_context::Answer;
+use state_context::Context;
 
 pub fn on_enter_paragraph(c: Context, captures: &mut [u8], out: &mut [u8]) -> Context
     ensures { λ r. ⌜ Keeps Any onEnterParagraph c (now (captures .entry)) (now (out .entry)) r (now (captures .exit)) (now (out .exit)) ⌝ }
 {
-    if context::is_tight(c) {
+    if state_context::is_tight(c) {
         return c;
     }
-    let r = context::line_ending_if_needed(c, captures, out);
-    context::push(r, captures, out, b"<p>")
+    let r = state_context::line_ending_if_needed(c, captures, out);
+    state_context::push(r, captures, out, b"<p>")
 }
 
 pub fn on_exit_paragraph(c: Context, captures: &mut [u8], out: &mut [u8]) -> Context
     ensures { λ r. ⌜ Keeps Any onExitParagraph c (now (captures .entry)) (now (out .entry)) r (now (captures .exit)) (now (out .exit)) ⌝ }
 {
-    if context::is_tight(c) {
-        return context::set_slurp(c, true);
+    if state_context::is_tight(c) {
+        return state_context::set_slurp(c, true);
     }
-    context::push(c, captures, out, b"</p>")
+    state_context::push(c, captures, out, b"</p>")
 }
 
 pub fn on_enter_block_quote(c: Context, captures: &mut [u8], out: &mut [u8]) -> Context
     ensures { λ r. ⌜ Keeps Any onEnterBlockQuote c (now (captures .entry)) (now (out .entry)) r (now (captures .exit)) (now (out .exit)) ⌝ }
 {
-    let tight = context::tighten(c, false);
-    let r = context::line_ending_if_needed(tight, captures, out);
-    context::push(r, captures, out, b"<blockquote>")
+    let tight = state_context::tighten(c, false);
+    let r = state_context::line_ending_if_needed(tight, captures, out);
+    state_context::push(r, captures, out, b"<blockquote>")
 }
 
 pub fn on_exit_block_quote(c: Context, captures: &mut [u8], out: &mut [u8]) -> Context
     ensures { λ r. ⌜ Keeps Any onExitBlockQuote c (now (captures .entry)) (now (out .entry)) r (now (captures .exit)) (now (out .exit)) ⌝ }
 {
-    let loose = context::loosen(c);
-    let line = context::line_ending_if_needed(loose, captures, out);
-    let r = context::set_slurp(line, false);
-    context::push(r, captures, out, b"</blockquote>")
+    let loose = state_context::loosen(c);
+    let line = state_context::line_ending_if_needed(loose, captures, out);
+    let r = state_context::set_slurp(line, false);
+    state_context::push(r, captures, out, b"</blockquote>")
 }
 
 pub fn on_exit_thematic_break(c: Context, captures: &mut [u8], out: &mut [u8]) -> Context
     ensures { λ r. ⌜ Keeps Any onExitThematicBreak c (now (captures .entry)) (now (out .entry)) r (now (captures .exit)) (now (out .exit)) ⌝ }
 {
-    let r = context::line_ending_if_needed(c, captures, out);
-    context::push(r, captures, out, b"<hr />")
+    let r = state_context::line_ending_if_needed(c, captures, out);
+    state_context::push(r, captures, out, b"<hr />")
 }
 
 pub fn on_enter_code_indented(c: Context, captures: &mut [u8], out: &mut [u8]) -> Context
     ensures { λ r. ⌜ Keeps Any onEnterCodeIndented c (now (captures .entry)) (now (out .entry)) r (now (captures .exit)) (now (out .exit)) ⌝ }
 {
-    let seen = context::set_seen(c, Answer::No);
-    let r = context::line_ending_if_needed(seen, captures, out);
-    context::push(r, captures, out, b"<pre><code>")
+    let seen = state_context::set_seen(c, Answer::No);
+    let r = state_context::line_ending_if_needed(seen, captures, out);
+    state_context::push(r, captures, out, b"<pre><code>")
 }
 
 // No > yet: the info comes first.
 pub fn on_enter_raw_flow(c: Context, captures: &mut [u8], out: &mut [u8]) -> Context
     ensures { λ r. ⌜ Keeps Any onEnterRawFlow c (now (captures .entry)) (now (out .entry)) r (now (captures .exit)) (now (out .exit)) ⌝ }
 {
-    let seen = context::set_seen(c, Answer::No);
-    let line = context::line_ending_if_needed(seen, captures, out);
-    let r = context::push(line, captures, out, b"<pre><code");
-    context::open_fences(r)
+    let seen = state_context::set_seen(c, Answer::No);
+    let line = state_context::line_ending_if_needed(seen, captures, out);
+    let r = state_context::push(line, captures, out, b"<pre><code");
+    state_context::open_fences(r)
 }
 
 // Behind the first fence the tag ends, and the line with it.
 fn end_opening_fence(c: Context, captures: &mut [u8], out: &mut [u8]) -> Context
     ensures { λ r. ⌜ Keeps Any (when isFirstFence (put ">" ▸ set slurp true)) c (now (captures .entry)) (now (out .entry)) r (now (captures .exit)) (now (out .exit)) ⌝ }
 {
-    if context::is_first_fence(c) {
-        let r = context::push(c, captures, out, b">");
-        return context::set_slurp(r, true);
+    if state_context::is_first_fence(c) {
+        let r = state_context::push(c, captures, out, b">");
+        return state_context::set_slurp(r, true);
     }
     c
 }
@@ -85,30 +85,30 @@ pub fn on_exit_raw_flow_fence(c: Context, captures: &mut [u8], out: &mut [u8]) -
     ensures { λ r. ⌜ Keeps Any (onExitRawFlowFence) c (now (captures .entry)) (now (out .entry)) r (now (captures .exit)) (now (out .exit)) ⌝ }
 {
     let r = end_opening_fence(c, captures, out);
-    context::count_fence(r)
+    state_context::count_fence(r)
 }
 
 // In a container the line ending behind code that has no closing fence belongs to the code.
 fn end_open_code(c: Context, fence_before: bool, captures: &mut [u8], out: &mut [u8]) -> Context
     ensures { λ r. ⌜ Keeps (FenceBefore «fence_before») (when isFencedOnce (when isInContainer (unless isBehindFence lineEnding))) c (now (captures .entry)) (now (out .entry)) r (now (captures .exit)) (now (out .exit)) ⌝ }
 {
-    if !context::is_fenced_once(c) {
+    if !state_context::is_fenced_once(c) {
         return c;
     }
-    if !context::is_in_container(c) {
+    if !state_context::is_in_container(c) {
         return c;
     }
     if fence_before {
         return c;
     }
-    context::line_ending(c, captures, out)
+    state_context::line_ending(c, captures, out)
 }
 
 fn end_seen_data(c: Context, captures: &mut [u8], out: &mut [u8]) -> Context
     ensures { λ r. ⌜ Keeps Any (when hasSeenData lineEndingIfNeeded) c (now (captures .entry)) (now (out .entry)) r (now (captures .exit)) (now (out .exit)) ⌝ }
 {
-    if context::has_seen_data(c) {
-        return context::line_ending_if_needed(c, captures, out);
+    if state_context::has_seen_data(c) {
+        return state_context::line_ending_if_needed(c, captures, out);
     }
     c
 }
@@ -116,8 +116,8 @@ fn end_seen_data(c: Context, captures: &mut [u8], out: &mut [u8]) -> Context
 fn end_missing_fence(c: Context, captures: &mut [u8], out: &mut [u8]) -> Context
     ensures { λ r. ⌜ Keeps Any (when isFenceMissing lineEndingIfNeeded) c (now (captures .entry)) (now (out .entry)) r (now (captures .exit)) (now (out .exit)) ⌝ }
 {
-    if context::is_fence_missing(c) {
-        return context::line_ending_if_needed(c, captures, out);
+    if state_context::is_fence_missing(c) {
+        return state_context::line_ending_if_needed(c, captures, out);
     }
     c
 }
@@ -132,11 +132,11 @@ pub fn on_exit_raw_flow(
 {
     let open = end_open_code(c, fence_before, captures, out);
     let line = end_seen_data(open, captures, out);
-    let unseen = context::set_seen(line, Answer::Unset);
-    let tag = context::push(unseen, captures, out, b"</code></pre>");
+    let unseen = state_context::set_seen(line, Answer::Unset);
+    let tag = state_context::push(unseen, captures, out, b"</code></pre>");
     let fence = end_missing_fence(tag, captures, out);
-    let r = context::end_fences(fence);
-    context::set_slurp(r, false)
+    let r = state_context::end_fences(fence);
+    state_context::set_slurp(r, false)
 }
 
 // ---- what was captured
@@ -150,7 +150,7 @@ pub fn on_exit_raw_flow_fence_info(
     ensures { λ r. ⌜ Takes Any onExitRawFlowFenceInfo c (now (captures .entry)) (now (starts .entry)) (now (out .entry)) r (now (captures .exit)) (now (out .exit)) ⌝ }
 {
     let mut r = c;
-    r.buffers = resume::resume(
+    r.buffers = state_resume::resume(
         c.buffers,
         captures,
         starts,
@@ -170,6 +170,6 @@ pub fn on_exit_heading_atx_text(
     ensures { λ r. ⌜ Takes Any onExitHeadingAtxText c (now (captures .entry)) (now (starts .entry)) (now (out .entry)) r (now (captures .exit)) (now (out .exit)) ⌝ }
 {
     let mut r = c;
-    r.buffers = resume::resume(c.buffers, captures, starts, out, b"", b"");
+    r.buffers = state_resume::resume(c.buffers, captures, starts, out, b"", b"");
     r
 }

@@ -13,25 +13,25 @@ use Rattle.machine.specs.Footnote.{splitLabels, keep}
 use Rattle.machine.specs.Command.{_▸_, exec}
 use Rattle.machine.specs.Words.{keepFootnote, loosen}
 use Rattle.machine.proofs.Outcomes.{never, first-goes}
-use Rattle.bounded.specs.Within.{within}
-use Rattle.bounded.proofs.Bounds.{done, fits}
+use Rattle.machine_bounded.specs.Within.{within}
+use Rattle.machine_bounded.proofs.Bounds.{done, fits}
 use Rattle.regions.specs.Regions.{regionAt}
-use Rattle.buffers.specs.declared.Buffers.{Buffers}
-use Rattle.buffers.specs.Stand as Stand
-use Rattle.context.specs.declared.Context.{Context}
-use Rattle.context.specs.Rel.{Sets}
-use Rattle.context.proofs.Laws.{withBuffers}
-use Rattle.links.specs.Links.{Linked}
-use Rattle.kept.specs.declared.Kept.{Kept}
-use Rattle.kept.specs.Kept.{Piece, Keeps}
-use Rattle.kept.specs.Contracts.{KeepsFootnote}
-use Rattle.kept.proofs.Labels.{label-is}
-use Rattle.kept.proofs.Lists.{long-more, part-same}
-use Rattle.whole.specs.declared.Whole.{Whole}
-use Rattle.whole.specs.Whole.{World, Roomy, withContext, withKept}
-use Rattle.whole.proofs.Parts.{Alike, rel-alike, linked-same, keeps-same, front-long}
-use Rattle.whole.proofs.Lifts.{then}
-use Rattle.whole.proofs.Media.{cc-go, capture-there, Captured, captured, uncaptured}
+use Rattle.state_buffers.specs.declared.Buffers.{Buffers}
+use Rattle.state_buffers.specs.Stand as Stand
+use Rattle.state_context.specs.declared.Context.{Context}
+use Rattle.state_context.specs.Rel.{Sets}
+use Rattle.state_context.proofs.Laws.{withBuffers}
+use Rattle.state_media.specs.Links.{Linked}
+use Rattle.state_kept.specs.declared.Kept.{Kept}
+use Rattle.state_kept.specs.Kept.{Piece, Keeps}
+use Rattle.state_kept.specs.Contracts.{KeepsFootnote}
+use Rattle.state_kept.proofs.Labels.{label-is}
+use Rattle.state_kept.proofs.Lists.{long-more, part-same}
+use Rattle.state_whole.specs.declared.Whole.{Whole}
+use Rattle.state_whole.specs.Whole.{World, Roomy, withContext, withKept}
+use Rattle.state_whole.proofs.Parts.{Alike, rel-alike, linked-same, keeps-same, front-long}
+use Rattle.state_whole.proofs.Lifts.{then}
+use Rattle.state_whole.proofs.Media.{cc-go, capture-there, Captured, captured, uncaptured}
 use Rattle.on_footnote.specs.Footnotes.{OnFootnotes}
 use Rattle.on_footnote.proofs.Lifted.{sets-whole}
 

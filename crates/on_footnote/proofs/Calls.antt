@@ -16,17 +16,17 @@ use Rattle.machine.specs.Buffers.{push}
 use Rattle.machine.specs.Turn.{Turn, strOf}
 use Rattle.machine.specs.Footnote.{addressOf, callIndex, countAt, timesAt, callText, callNote}
 use Rattle.machine.proofs.Outcomes.{never, first-goes}
-use Rattle.links.specs.declared.Span.{Span}
-use Rattle.links.specs.declared.Label.the-variants as L
-use Rattle.links.specs.Links.{labelOf, spanIs}
-use Rattle.kept.specs.Kept.{LabelIs}
-use Rattle.kept.proofs.Labels.{label-is}
-use Rattle.kept.proofs.Lists.{long-more}
-use Rattle.kept.proofs.Calls.{firstCall, count-new, count-long}
-use Rattle.whole.specs.declared.Whole.{Whole}
-use Rattle.whole.specs.Whole.{World, Built}
-use Rattle.whole.proofs.Quiet.{pushed}
-use Rattle.whole.proofs.Media.{cc-go, newest-there}
+use Rattle.state_media.specs.declared.Span.{Span}
+use Rattle.state_media.specs.declared.Label.the-variants as L
+use Rattle.state_media.specs.Links.{labelOf, spanIs}
+use Rattle.state_kept.specs.Kept.{LabelIs}
+use Rattle.state_kept.proofs.Labels.{label-is}
+use Rattle.state_kept.proofs.Lists.{long-more}
+use Rattle.state_kept.proofs.Calls.{firstCall, count-new, count-long}
+use Rattle.state_whole.specs.declared.Whole.{Whole}
+use Rattle.state_whole.specs.Whole.{World, Built}
+use Rattle.state_whole.proofs.Quiet.{pushed}
+use Rattle.state_whole.proofs.Media.{cc-go, newest-there}
 
 -- ---- the machine
 

@@ -14,25 +14,25 @@ use Rattle.machine.specs.Footnote.{addressOf, callIndex, countAt, timesAt, call
 use Rattle.machine.specs.Test as Test
 use Rattle.machine.specs.Command.{exec}
 use Rattle.machine.specs.Words.{call}
-use Rattle.bounded.specs.Within.{fitting, within}
-use Rattle.bounded.proofs.Bounds.{done, fits}
+use Rattle.machine_bounded.specs.Within.{fitting, within}
+use Rattle.machine_bounded.proofs.Bounds.{done, fits}
 use Rattle.regions.specs.Regions.{regionAt}
-use Rattle.buffers.specs.declared.Buffers.{Buffers}
-use Rattle.context.specs.Rel.{Any, Tells}
-use Rattle.context.proofs.Laws.{withBuffers}
-use Rattle.context.proofs.Commands.{flag-told}
-use Rattle.links.specs.declared.Links.{Links}
-use Rattle.links.specs.declared.Span.{Span}
-use Rattle.links.specs.declared.Label.the-variants as L
-use Rattle.links.specs.Links.{Closes}
-use Rattle.kept.specs.declared.Kept.{Kept}
-use Rattle.kept.specs.Kept.{Keeps, LabelIs, tables}
-use Rattle.kept.specs.Contracts.{FindsCall, CountsCall, TellsTimes}
-use Rattle.kept.proofs.Room.{call-index-low, index-fits, times-fit}
-use Rattle.whole.specs.declared.Whole.{Whole}
-use Rattle.whole.specs.Whole.{World, Built, Held, withContext, withLinks, withKept, withOut, withWork}
-use Rattle.whole.proofs.Parts.{Alike, rel-alike, linked-same, keeps-same}
-use Rattle.whole.proofs.Shown.{shown}
+use Rattle.state_buffers.specs.declared.Buffers.{Buffers}
+use Rattle.state_context.specs.Rel.{Any, Tells}
+use Rattle.state_context.proofs.Laws.{withBuffers}
+use Rattle.state_context.proofs.Commands.{flag-told}
+use Rattle.state_media.specs.declared.Links.{Links}
+use Rattle.state_media.specs.declared.Span.{Span}
+use Rattle.state_media.specs.declared.Label.the-variants as L
+use Rattle.state_media.specs.Links.{Closes}
+use Rattle.state_kept.specs.declared.Kept.{Kept}
+use Rattle.state_kept.specs.Kept.{Keeps, LabelIs, tables}
+use Rattle.state_kept.specs.Contracts.{FindsCall, CountsCall, TellsTimes}
+use Rattle.state_kept.proofs.Room.{call-index-low, index-fits, times-fit}
+use Rattle.state_whole.specs.declared.Whole.{Whole}
+use Rattle.state_whole.specs.Whole.{World, Built, Held, withContext, withLinks, withKept, withOut, withWork}
+use Rattle.state_whole.proofs.Parts.{Alike, rel-alike, linked-same, keeps-same}
+use Rattle.state_whole.proofs.Shown.{shown}
 use Rattle.on_footnote.specs.Footnotes.{OnCalls, withCalls}
 use Rattle.on_footnote.specs.Private.{CallsLabel, WritesCall}
 use Rattle.on_footnote.proofs.Calls.{counted, textOf, kept-is, counted-there, KnownCall, known, unlabelled}

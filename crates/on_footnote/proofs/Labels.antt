@@ -12,14 +12,14 @@ use Rattle.machine.specs.Set.{setLabels}
 use Rattle.machine.specs.Turn.{spanOf}
 use Rattle.machine.specs.Command.{exec}
 use Rattle.machine.specs.Words.{footnoteLabel}
-use Rattle.bounded.specs.Within.{within}
-use Rattle.bounded.proofs.Bounds.{done, fits}
-use Rattle.kept.specs.declared.Kept.{Kept}
-use Rattle.kept.specs.Contracts.{OpensLabel}
-use Rattle.whole.specs.declared.Whole.{Whole}
-use Rattle.whole.specs.Whole.{Always, withKept}
-use Rattle.whole.proofs.Parts.{Alike, rel-alike, linked-same}
-use Rattle.whole.proofs.Media.{cc-go}
+use Rattle.machine_bounded.specs.Within.{within}
+use Rattle.machine_bounded.proofs.Bounds.{done, fits}
+use Rattle.state_kept.specs.declared.Kept.{Kept}
+use Rattle.state_kept.specs.Contracts.{OpensLabel}
+use Rattle.state_whole.specs.declared.Whole.{Whole}
+use Rattle.state_whole.specs.Whole.{Always, withKept}
+use Rattle.state_whole.proofs.Parts.{Alike, rel-alike, linked-same}
+use Rattle.state_whole.proofs.Media.{cc-go}
 use Rattle.on_footnote.specs.Footnotes.{IsEvent, OnLabels}
 
 alike-labels : (x : List Span) (s : State) → Alike s (setLabels x s)

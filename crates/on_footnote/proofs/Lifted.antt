@@ -6,13 +6,13 @@ use Prim.Native.Nat.{ℕ}
 use lib.ListN.{take, take-append-drop}
 use Rattle.machine.specs.Turn.{Turn}
 use Rattle.machine.specs.Command.{Command}
-use Rattle.context.specs.declared.Context.{Context}
-use Rattle.context.specs.Rel.{Sets}
-use Rattle.context.proofs.Commands.{sets}
-use Rattle.whole.specs.declared.Whole.{Whole}
-use Rattle.whole.specs.Quiet.{isQuiet}
-use Rattle.whole.specs.Whole.{World, Always, Handles, Unlent, withContext, withStarts, withBytes}
-use Rattle.whole.proofs.Lifts.{lifts}
+use Rattle.state_context.specs.declared.Context.{Context}
+use Rattle.state_context.specs.Rel.{Sets}
+use Rattle.state_context.proofs.Commands.{sets}
+use Rattle.state_whole.specs.declared.Whole.{Whole}
+use Rattle.state_whole.specs.Quiet.{isQuiet}
+use Rattle.state_whole.specs.Whole.{World, Always, Handles, Unlent, withContext, withStarts, withBytes}
+use Rattle.state_whole.proofs.Lifts.{lifts}
 
 -- the captures as they were
 unchanged : {text : List ℕ} {N : Whole → Type 0} {View : Turn → Type 0} {d : Command} {b r : Whole} {w : World} → Handles text N View d b w r (withStarts (w .starts) (withBytes (take 16384 (w .work)) (w .out) w)) → Handles text N View d b w r w

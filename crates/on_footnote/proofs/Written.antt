@@ -7,8 +7,8 @@ use lib.ListN.{length, take, drop, length-take}
 use lib.Seq.{take-at, drop-at}
 use Rattle.machine.specs.Buffers.{push}
 use Rattle.machine.specs.Footnote.{addressOf, callText}
-use Rattle.buffers.specs.declared.Buffers.{Buffers}
-use Rattle.buffers.specs.Stand as Stand
+use Rattle.state_buffers.specs.declared.Buffers.{Buffers}
+use Rattle.state_buffers.specs.Stand as Stand
 use Rattle.on_footnote.specs.Private.{WritesCall}
 
 module _ {b : Buffers} {text work out : List ℕ} {from to index times : ℕ} where

@@ -5,9 +5,9 @@ use Prim.Native.Nat.{ℕ}
 use Rattle.event.specs.declared.Event.{Event}
 use Rattle.machine.specs.Turn.{Turn}
 use Rattle.machine.specs.Command.{Command}
-use Rattle.kept.specs.Kept.{tables}
-use Rattle.whole.specs.declared.Whole.{Whole}
-use Rattle.whole.specs.Whole.{World, Handles, withWork, withOut, withTables}
+use Rattle.state_kept.specs.Kept.{tables}
+use Rattle.state_whole.specs.declared.Whole.{Whole}
+use Rattle.state_whole.specs.Whole.{World, Handles, withWork, withOut, withTables}
 
 -- ---- what is known of the turn
 

@@ -6,13 +6,13 @@ use lib.ListN.{length, take, drop}
 use Rattle.machine.specs.Buffers.{push}
 use Rattle.machine.specs.Footnote.{addressOf, callText}
 use Rattle.machine.specs.Words.{call}
-use Rattle.buffers.specs.declared.Buffers.{Buffers}
-use Rattle.buffers.specs.Stand as Stand
-use Rattle.links.specs.declared.Span.{Span}
-use Rattle.links.specs.declared.Label.the-variants as L
-use Rattle.kept.specs.Kept.{LabelIs}
-use Rattle.whole.specs.declared.Whole.{Whole}
-use Rattle.whole.specs.Whole.{Held}
+use Rattle.state_buffers.specs.declared.Buffers.{Buffers}
+use Rattle.state_buffers.specs.Stand as Stand
+use Rattle.state_media.specs.declared.Span.{Span}
+use Rattle.state_media.specs.declared.Label.the-variants as L
+use Rattle.state_kept.specs.Kept.{LabelIs}
+use Rattle.state_whole.specs.declared.Whole.{Whole}
+use Rattle.state_whole.specs.Whole.{Held}
 use Rattle.on_footnote.specs.Footnotes.{OnCalls}
 
 -- the newest medium is known by this slice

@@ -1,15 +1,15 @@
 // Handlers of footnotes, by their Rust names.
 ghost use Rattle.machine.specs.OnFootnote.{onEnterGfmFootnoteCall, onExitGfmFootnoteCall, onExitGfmFootnoteDefinitionLabelString, onExitGfmFootnoteDefinition};
 ghost use Rattle.machine.specs.Words.{keepFootnote};
-ghost use Rattle.context.specs.Rel.{Any};
-ghost use Rattle.whole.specs.Whole.{Always, Held, Roomy, Unlent};
+ghost use Rattle.state_context.specs.Rel.{Any};
+ghost use Rattle.state_whole.specs.Whole.{Always, Held, Roomy, Unlent};
 ghost use Rattle.on_footnote.specs.Footnotes.{IsEvent, OnLabels, OnFootnotes, OnCalls};
 ghost use Rattle.on_footnote.specs.Private.{CallsLabel, WritesCall};
-use buffers::Buffers;
 use event::Event;
-use links::Label;
-use links::Span;
-use whole::Whole;
+use state_buffers::Buffers;
+use state_media::Label;
+use state_media::Span;
+use state_whole::Whole;
 
 // ---- calls
 
@@ -17,7 +17,7 @@ pub fn on_enter_gfm_footnote_call(b: Whole) -> Whole
     ensures { λ r. ⌜ Unlent Always Any onEnterGfmFootnoteCall b r ⌝ }
 {
     let mut r = b;
-    r.links = links::open_media(b.links, false);
+    r.links = state_media::open_media(b.links, false);
     r
 }
 
@@ -52,14 +52,14 @@ fn call_label(
 {
     let from = p.from.0;
     let to = p.to.0;
-    let index = kept::call_index(b.kept, text, from, to, calls);
+    let index = state_kept::call_index(b.kept, text, from, to, calls);
     let mut r = b;
-    r.kept = kept::count_call(b.kept, index, text, from, to, calls);
-    r.links = links::close_media(b.links);
-    if context::is_alt(b.context) {
+    r.kept = state_kept::count_call(b.kept, index, text, from, to, calls);
+    r.links = state_media::close_media(b.links);
+    if state_context::is_alt(b.context) {
         return r;
     }
-    let times = kept::times_at(calls, index);
+    let times = state_kept::times_at(calls, index);
     let mut c = b.context;
     c.buffers = write_call(c.buffers, text, from, to, index, times, work, out);
     r.context = c;
@@ -93,7 +93,7 @@ fn write_call(
     }
     let label = &text[from..to];
     let captures = &mut work[0..16384];
-    note_text::push_call(b, captures, out, label, index + 1, times)
+    write_footnote::push_call(b, captures, out, label, index + 1, times)
 }
 
 // ---- definitions
@@ -106,7 +106,7 @@ pub fn on_exit_gfm_footnote_definition_label_string(
     ensures { λ r. ⌜ OnLabels Always (IsEvent e) onExitGfmFootnoteDefinitionLabelString b (now (labels .entry)) r (now (labels .exit)) ⌝ }
 {
     let mut r = b;
-    r.kept = kept::open_label(b.kept, e.from.0, e.to.0, labels);
+    r.kept = state_kept::open_label(b.kept, e.from.0, e.to.0, labels);
     r
 }
 
@@ -122,7 +122,7 @@ pub fn on_exit_gfm_footnote_definition(
 {
     let k = keep_body(b, text, work, starts, footnotes, labels);
     let mut r = k;
-    r.context = context::loosen(k.context);
+    r.context = state_context::loosen(k.context);
     r
 }
 
@@ -144,8 +144,8 @@ fn keep_body(
     if to < from {
         return b;
     }
-    r.kept = kept::keep_footnote(b.kept, text, from, to - from, work, footnotes, labels);
-    c.buffers = buffers::drop(b.context.buffers, starts);
+    r.kept = state_kept::keep_footnote(b.kept, text, from, to - from, work, footnotes, labels);
+    c.buffers = state_buffers::drop(b.context.buffers, starts);
     r.context = c;
     r
 }

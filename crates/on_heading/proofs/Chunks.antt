@@ -15,13 +15,13 @@ use Rattle.machine.specs.Test.{is}
 use Rattle.machine.specs.Command.{exec}
 use Rattle.machine.specs.Words.{chunk}
 use Rattle.machine.proofs.Outcomes.{joins}
-use Rattle.bounded.specs.Within.{one, within}
-use Rattle.buffers.specs.declared.Buffers.{Buffers}
-use Rattle.buffers.specs.Stand as Stand
-use Rattle.context.specs.declared.Context.{Context}
-use Rattle.context.specs.Rel.{Any, Sees, Keeps, Tells}
-use Rattle.context.proofs.Laws.{withBuffers}
-use Rattle.context.proofs.Slices.{owned-back, owned-out, owned-pushes}
+use Rattle.machine_bounded.specs.Within.{one, within}
+use Rattle.state_buffers.specs.declared.Buffers.{Buffers}
+use Rattle.state_buffers.specs.Stand as Stand
+use Rattle.state_context.specs.declared.Context.{Context}
+use Rattle.state_context.specs.Rel.{Any, Sees, Keeps, Tells}
+use Rattle.state_context.proofs.Laws.{withBuffers}
+use Rattle.state_context.proofs.Slices.{owned-back, owned-out, owned-pushes}
 
 abbrev spaced : Event → List ℕ → List ℕ
 spaced e b = replicate (e .before) 32 ++ b ++ replicate (e .after) 32

@@ -20,15 +20,15 @@ use Rattle.machine.specs.Turn.{Turn, spanOf, sliceOf}
 use Rattle.machine.specs.Command.{exec}
 use Rattle.machine.specs.Words.{rank, keepRank}
 use Rattle.machine.proofs.Outcomes.{never, first-goes, joins}
-use Rattle.bounded.specs.Within.{within}
-use Rattle.bounded.proofs.Bounds.{done}
-use Rattle.buffers.specs.declared.Buffers.{Buffers}
-use Rattle.buffers.specs.Stand as Stand
-use Rattle.context.specs.declared.Number.the-variants as N
-use Rattle.context.specs.declared.Context.{Context}
-use Rattle.context.specs.Rel.{Any, Sees, Keeps, SetsFor, Ranks}
-use Rattle.context.proofs.Laws.{withBuffers, rel-buffers, pushed}
-use Rattle.context.proofs.Slices.{passed}
+use Rattle.machine_bounded.specs.Within.{within}
+use Rattle.machine_bounded.proofs.Bounds.{done}
+use Rattle.state_buffers.specs.declared.Buffers.{Buffers}
+use Rattle.state_buffers.specs.Stand as Stand
+use Rattle.state_context.specs.declared.Number.the-variants as N
+use Rattle.state_context.specs.declared.Context.{Context}
+use Rattle.state_context.specs.Rel.{Any, Sees, Keeps, SetsFor, Ranks}
+use Rattle.state_context.proofs.Laws.{withBuffers, rel-buffers, pushed}
+use Rattle.state_context.proofs.Slices.{passed}
 
 -- ---- kept
 

@@ -1,11 +1,11 @@
 // Handlers of atx headings and of lines of code, by their Rust names.
 ghost use Rattle.machine.specs.Words.{chunk, rank, keepRank};
 ghost use Rattle.machine.specs.OnFlow.{onExitHeadingAtxSequence, onExitHeadingAtx, onExitRawFlowChunk};
-ghost use Rattle.context.specs.Rel.{Any, Sees, Keeps, SetsFor};
-use context::Answer;
-use context::Context;
-use context::Number;
+ghost use Rattle.state_context.specs.Rel.{Any, Sees, Keeps, SetsFor};
 use event::Event;
+use state_context::Answer;
+use state_context::Context;
+use state_context::Number;
 
 // ---- headings
 
@@ -21,7 +21,7 @@ fn keep_rank(c: Context, text: &[u8], e: Event) -> Context
     if text.len() < to {
         return c;
     }
-    context::with_rank(c, Number::Is(to - from))
+    state_context::with_rank(c, Number::Is(to - from))
 }
 
 // The rank that waits, in decimal.
@@ -33,7 +33,7 @@ fn push_rank(c: Context, captures: &mut [u8], out: &mut [u8]) -> Context
         return c;
     };
     let mut r = c;
-    r.buffers = pieces::push_decimal(c.buffers, captures, out, n);
+    r.buffers = write_pieces::push_decimal(c.buffers, captures, out, n);
     r
 }
 
@@ -47,23 +47,23 @@ pub fn on_exit_heading_atx_sequence(
 ) -> Context
     ensures { λ r. ⌜ Keeps (Sees (now (text .entry)) e) onExitHeadingAtxSequence c (now (captures .entry)) (now (out .entry)) r (now (captures .exit)) (now (out .exit)) ⌝ }
 {
-    if context::has_rank(c) {
+    if state_context::has_rank(c) {
         return c;
     }
-    let line = context::line_ending_if_needed(c, captures, out);
+    let line = state_context::line_ending_if_needed(c, captures, out);
     let ranked = keep_rank(line, text, e);
-    let begun = context::push(ranked, captures, out, b"<h");
+    let begun = state_context::push(ranked, captures, out, b"<h");
     let r = push_rank(begun, captures, out);
-    context::push(r, captures, out, b">")
+    state_context::push(r, captures, out, b">")
 }
 
 pub fn on_exit_heading_atx(c: Context, captures: &mut [u8], out: &mut [u8]) -> Context
     ensures { λ r. ⌜ Keeps Any onExitHeadingAtx c (now (captures .entry)) (now (out .entry)) r (now (captures .exit)) (now (out .exit)) ⌝ }
 {
-    let begun = context::push(c, captures, out, b"</h");
+    let begun = state_context::push(c, captures, out, b"</h");
     let ranked = push_rank(begun, captures, out);
-    let r = context::push(ranked, captures, out, b">");
-    context::forget_rank(r)
+    let r = state_context::push(ranked, captures, out, b">");
+    state_context::forget_rank(r)
 }
 
 // ---- code
@@ -81,10 +81,10 @@ fn push_chunk(c: Context, text: &[u8], e: Event, captures: &mut [u8], out: &mut 
         return c;
     }
     let mut r = c;
-    let encoding = context::encodes(c);
+    let encoding = state_context::encodes(c);
     let before = e.before;
     let after = e.after;
-    r.buffers = pieces::push_padded(
+    r.buffers = write_pieces::push_padded(
         c.buffers,
         captures,
         out,
@@ -105,6 +105,6 @@ pub fn on_exit_raw_flow_chunk(
 ) -> Context
     ensures { λ r. ⌜ Keeps (Sees (now (text .entry)) e) onExitRawFlowChunk c (now (captures .entry)) (now (out .entry)) r (now (captures .exit)) (now (out .exit)) ⌝ }
 {
-    let r = context::set_seen(c, Answer::Yes);
+    let r = state_context::set_seen(c, Answer::Yes);
     push_chunk(r, text, e, captures, out)
 }

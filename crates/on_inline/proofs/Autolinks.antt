@@ -17,16 +17,16 @@ use Rattle.machine.specs.Command as C
 use Rattle.machine.specs.Command.{made}
 use Rattle.machine.specs.Words.{url}
 use Rattle.machine.proofs.Outcomes.{first-goes}
-use Rattle.bounded.specs.Within.{within}
-use Rattle.bounded.proofs.Bounds.{wrote}
-use Rattle.buffers.specs.declared.Buffers.{Buffers}
-use Rattle.buffers.specs.Stand as Stand
-use Rattle.pieces.specs.Pieces.{PushesMail}
-use Rattle.context.specs.declared.Context.{Context}
-use Rattle.context.specs.Rel.{Sees, Keeps}
-use Rattle.context.proofs.Laws.{withBuffers, rel-buffers, pushed}
+use Rattle.machine_bounded.specs.Within.{within}
+use Rattle.machine_bounded.proofs.Bounds.{wrote}
+use Rattle.state_buffers.specs.declared.Buffers.{Buffers}
+use Rattle.state_buffers.specs.Stand as Stand
+use Rattle.write_pieces.specs.Pieces.{PushesMail}
+use Rattle.state_context.specs.declared.Context.{Context}
+use Rattle.state_context.specs.Rel.{Sees, Keeps}
+use Rattle.state_context.proofs.Laws.{withBuffers, rel-buffers, pushed}
 use Rattle.on_inline.specs.View.{SeesWith}
-use Rattle.context.proofs.Slices.{Sliced}
+use Rattle.state_context.proofs.Slices.{Sliced}
 use Rattle.on_inline.proofs.Own.{sliceIn, own}
 
 abbrev addressOf : String → Turn → List ℕ → List ℕ

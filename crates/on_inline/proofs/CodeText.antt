@@ -15,16 +15,16 @@ use Rattle.machine.specs.Turn.{asStr}
 use Rattle.machine.specs.Command.{exec}
 use Rattle.machine.specs.Words.{resumeCode}
 use Rattle.machine.proofs.Outcomes.{never, first-goes}
-use Rattle.bounded.specs.Within.{within}
-use Rattle.bounded.proofs.Bounds.{done}
-use Rattle.buffers.specs.declared.Buffers.{Buffers}
-use Rattle.buffers.specs.Stand.{Resumes}
-use Rattle.resume.specs.Written.{codeIn}
-use Rattle.context.specs.declared.Context.{Context}
-use Rattle.context.specs.declared.Table.{Table}
-use Rattle.context.specs.Rel.{Any, Takes, enterOf, alignsOf}
-use Rattle.context.proofs.Laws.{withBuffers}
-use Rattle.context.proofs.Slices.{taking}
+use Rattle.machine_bounded.specs.Within.{within}
+use Rattle.machine_bounded.proofs.Bounds.{done}
+use Rattle.state_buffers.specs.declared.Buffers.{Buffers}
+use Rattle.state_buffers.specs.Stand.{Resumes}
+use Rattle.state_resume.specs.Written.{codeIn}
+use Rattle.state_context.specs.declared.Context.{Context}
+use Rattle.state_context.specs.declared.Table.{Table}
+use Rattle.state_context.specs.Rel.{Any, Takes, enterOf, alignsOf}
+use Rattle.state_context.proofs.Laws.{withBuffers}
+use Rattle.state_context.proofs.Slices.{taking}
 use Rattle.on_inline.proofs.Own.{as-str}
 
 -- in a table is where there are columns

@@ -7,8 +7,8 @@ use Rattle.utf8.specs.Utf8.{isUtf8}
 use Rattle.event.specs.declared.Event.{Event}
 use Rattle.machine.specs.Outcome.{go}
 use Rattle.machine.specs.Turn.{Turn, asStr, ownStr}
-use Rattle.context.specs.Rel.{Sees}
-use Rattle.context.proofs.Slices.{passed, Sliced, own-slice}
+use Rattle.state_context.specs.Rel.{Sees}
+use Rattle.state_context.proofs.Slices.{passed, Sliced, own-slice}
 
 -- text that is UTF-8 stays as it is
 pub as-str : (a b : List ℕ) → asStr a ≡ go b → a ≡ b

@@ -21,17 +21,17 @@ use Rattle.machine.specs.Test.{is}
 use Rattle.machine.specs.Command.{exec}
 use Rattle.machine.specs.Words.{reference}
 use Rattle.machine.proofs.Outcomes.{never, first-goes}
-use Rattle.bounded.specs.Within.{within}
-use Rattle.bounded.proofs.Bounds.{done}
-use Rattle.buffers.specs.declared.Buffers.{Buffers}
-use Rattle.pieces.specs.Pieces.{PushesReference}
-use Rattle.context.specs.declared.Mark.{Mark}
-use Rattle.context.specs.declared.Mark.the-variants as M
-use Rattle.context.specs.declared.Context.{Context}
-use Rattle.context.specs.Rel.{Rel, Any, Sees, Keeps, Tells, MarkIs, ForgetsMarker, namesIn}
-use Rattle.context.proofs.Laws.{withBuffers, rel-buffers, pushed}
-use Rattle.context.proofs.Commands.{flag-told}
-use Rattle.context.proofs.Slices.{Sliced}
+use Rattle.machine_bounded.specs.Within.{within}
+use Rattle.machine_bounded.proofs.Bounds.{done}
+use Rattle.state_buffers.specs.declared.Buffers.{Buffers}
+use Rattle.write_pieces.specs.Pieces.{PushesReference}
+use Rattle.state_context.specs.declared.Mark.{Mark}
+use Rattle.state_context.specs.declared.Mark.the-variants as M
+use Rattle.state_context.specs.declared.Context.{Context}
+use Rattle.state_context.specs.Rel.{Rel, Any, Sees, Keeps, Tells, MarkIs, ForgetsMarker, namesIn}
+use Rattle.state_context.proofs.Laws.{withBuffers, rel-buffers, pushed}
+use Rattle.state_context.proofs.Commands.{flag-told}
+use Rattle.state_context.proofs.Slices.{Sliced}
 use Rattle.on_inline.proofs.Own.{sliceIn, own}
 
 -- what is needed is there

@@ -4,12 +4,12 @@ ghost use Rattle.machine.specs.Test.{is};
 ghost use Rattle.machine.specs.Command.{_▸_};
 ghost use Rattle.machine.specs.Words.{unless, put, slice, tag, url, resumeCode};
 ghost use Rattle.machine.specs.OnText.{onExitCharacterReferenceValue, onExitRawText, onExitAutolinkEmail, onExitAutolinkProtocol};
-ghost use Rattle.context.specs.Rel.{Any, Sees, Keeps, Takes};
+ghost use Rattle.state_context.specs.Rel.{Any, Sees, Keeps, Takes};
 ghost use Rattle.on_inline.specs.View.{SeesWith};
-use context::Context;
-use context::Mark;
 use event::Event;
 use machine::Options;
+use state_context::Context;
+use state_context::Mark;
 
 // ---- character references
 
@@ -31,14 +31,14 @@ pub fn on_exit_character_reference_value(
     if text.len() < to {
         return c;
     }
-    let x = context::waiting_marker(c);
+    let x = state_context::waiting_marker(c);
     let Mark::Is(m) = x else {
         return c;
     };
-    let names = context::names_in(c);
-    let mut r = context::forget_marker(c);
-    let encoding = context::encodes(c);
-    r.buffers = pieces::push_reference(
+    let names = state_context::names_in(c);
+    let mut r = state_context::forget_marker(c);
+    let encoding = state_context::encodes(c);
+    r.buffers = write_pieces::push_reference(
         r.buffers,
         captures,
         out,
@@ -58,7 +58,7 @@ fn resume_code(c: Context, captures: &mut [u8], starts: &[usize], out: &mut [u8]
 {
     let mut r = c;
     let inside = c.table.inside;
-    r.buffers = resume::resume_code(c.buffers, captures, starts, out, inside);
+    r.buffers = state_resume::resume_code(c.buffers, captures, starts, out, inside);
     r
 }
 
@@ -71,8 +71,8 @@ pub fn on_exit_raw_text(
     ensures { λ r. ⌜ Takes Any onExitRawText c (now (captures .entry)) (now (starts .entry)) (now (out .entry)) r (now (captures .exit)) (now (out .exit)) ⌝ }
 {
     let code = resume_code(c, captures, starts, out);
-    let r = context::set_raw(code, false);
-    context::push_tag(r, captures, out, b"</code>")
+    let r = state_context::set_raw(code, false);
+    state_context::push_tag(r, captures, out, b"</code>")
 }
 
 // ---- autolinks
@@ -97,7 +97,7 @@ fn push_url(
         return c;
     }
     let mut r = c;
-    r.buffers = pieces::push_url(c.buffers, captures, out, &text[from..to], options, false);
+    r.buffers = write_pieces::push_url(c.buffers, captures, out, &text[from..to], options, false);
     r
 }
 
@@ -114,7 +114,7 @@ fn push_mail(c: Context, text: &[u8], e: Event, captures: &mut [u8], out: &mut [
         return c;
     }
     let mut r = c;
-    r.buffers = pieces::push_mail(c.buffers, captures, out, &text[from..to]);
+    r.buffers = write_pieces::push_mail(c.buffers, captures, out, &text[from..to]);
     r
 }
 
@@ -129,31 +129,31 @@ fn begin_protocol(
 ) -> Context
     ensures { λ r. ⌜ Keeps (SeesWith (now (text .entry)) e options) (unless (is alt) (put "<a href=\"" ▸ url "" ▸ put "\">")) c (now (captures .entry)) (now (out .entry)) r (now (captures .exit)) (now (out .exit)) ⌝ }
 {
-    if context::is_alt(c) {
+    if state_context::is_alt(c) {
         return c;
     }
-    let begun = context::push(c, captures, out, b"<a href=\"");
+    let begun = state_context::push(c, captures, out, b"<a href=\"");
     let r = push_url(begun, text, e, options, captures, out);
-    context::push(r, captures, out, b"\">")
+    state_context::push(r, captures, out, b"\">")
 }
 
 fn begin_email(c: Context, text: &[u8], e: Event, captures: &mut [u8], out: &mut [u8]) -> Context
     ensures { λ r. ⌜ Keeps (Sees (now (text .entry)) e) (unless (is alt) (put "<a href=\"" ▸ url "mailto:" ▸ put "\">")) c (now (captures .entry)) (now (out .entry)) r (now (captures .exit)) (now (out .exit)) ⌝ }
 {
-    if context::is_alt(c) {
+    if state_context::is_alt(c) {
         return c;
     }
-    let begun = context::push(c, captures, out, b"<a href=\"");
+    let begun = state_context::push(c, captures, out, b"<a href=\"");
     let r = push_mail(begun, text, e, captures, out);
-    context::push(r, captures, out, b"\">")
+    state_context::push(r, captures, out, b"\">")
 }
 
 // The text of either is its slice.
 fn end_autolink(c: Context, text: &[u8], e: Event, captures: &mut [u8], out: &mut [u8]) -> Context
     ensures { λ r. ⌜ Keeps (Sees (now (text .entry)) e) (slice ▸ tag "</a>") c (now (captures .entry)) (now (out .entry)) r (now (captures .exit)) (now (out .exit)) ⌝ }
 {
-    let r = context::push_slice(c, text, e, captures, out);
-    context::push_tag(r, captures, out, b"</a>")
+    let r = state_context::push_slice(c, text, e, captures, out);
+    state_context::push_tag(r, captures, out, b"</a>")
 }
 
 pub fn on_exit_autolink_email(

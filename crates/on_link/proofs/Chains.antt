@@ -3,9 +3,9 @@ use mathlib.Core.List.{List}
 use Prim.Native.Nat.{ℕ}
 use Rattle.machine.specs.Turn.{Turn}
 use Rattle.machine.specs.Command.{Command, _▸_}
-use Rattle.whole.specs.declared.Whole.{Whole}
-use Rattle.whole.specs.Whole.{Always, Unlent, FromStarts, OnStarts, OnWork, withStarts, withWork}
-use Rattle.whole.proofs.Lifts.{then}
+use Rattle.state_whole.specs.declared.Whole.{Whole}
+use Rattle.state_whole.specs.Whole.{Always, Unlent, FromStarts, OnStarts, OnWork, withStarts, withWork}
+use Rattle.state_whole.proofs.Lifts.{then}
 
 module _ {N : Whole → Type 0} {View : Turn → Type 0} {d e : Command} {b r q : Whole} where
   pub then-unlent : Unlent N View d b r → Unlent Always View e r q → Unlent N View (d ▸ e) b q

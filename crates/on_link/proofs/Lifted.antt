@@ -9,16 +9,16 @@ use Rattle.machine.specs.Turn.{Turn}
 use Rattle.machine.specs.Media.{Id}
 use Rattle.machine.specs.Command.{Command}
 use Rattle.machine.specs.Words.{identify}
-use Rattle.context.specs.declared.Context.{Context}
-use Rattle.context.specs.Rel.{Sets, Begins, Ends, Takes}
-use Rattle.context.proofs.Commands.{sets, begins}
-use Rattle.links.specs.declared.Links.{Links}
-use Rattle.links.specs.Links.{Identifies}
-use Rattle.whole.specs.declared.Whole.{Whole}
-use Rattle.whole.specs.Quiet.{isQuiet}
-use Rattle.whole.specs.Whole.{World, Always, Roomy, Handles, Unlent, FromStarts, OnStarts, withContext, withLinks, withStarts, withBytes}
-use Rattle.whole.proofs.Lifts.{lifts, lifts-takes, lifts-opens}
-use Rattle.whole.proofs.Media.{identifies}
+use Rattle.state_context.specs.declared.Context.{Context}
+use Rattle.state_context.specs.Rel.{Sets, Begins, Ends, Takes}
+use Rattle.state_context.proofs.Commands.{sets, begins}
+use Rattle.state_media.specs.declared.Links.{Links}
+use Rattle.state_media.specs.Links.{Identifies}
+use Rattle.state_whole.specs.declared.Whole.{Whole}
+use Rattle.state_whole.specs.Quiet.{isQuiet}
+use Rattle.state_whole.specs.Whole.{World, Always, Roomy, Handles, Unlent, FromStarts, OnStarts, withContext, withLinks, withStarts, withBytes}
+use Rattle.state_whole.proofs.Lifts.{lifts, lifts-takes, lifts-opens}
+use Rattle.state_whole.proofs.Media.{identifies}
 use Rattle.on_link.specs.Links.{Handled}
 
 -- the captures put back before the bytes behind them

@@ -8,13 +8,13 @@ ghost use Rattle.machine.specs.Command.{_▸_};
 ghost use Rattle.machine.specs.Words.{buffer, drop, set, store, identify};
 ghost use Rattle.machine.specs.OnMedia.{onEnterLink, onEnterImage, onExitLabel, onExitLabelText, onExitReferenceString, onEnterResource, onExitResourceDestinationString, onExitResourceTitleString, onEnterDefinition, onExitDefinitionLabelString, onExitDefinitionDestinationString, onExitDefinitionTitleString};
 ghost use Rattle.machine.specs.Media as M;
-ghost use Rattle.context.specs.Rel.{Any};
-ghost use Rattle.whole.specs.Whole.{Always, Roomy, Unlent, FromStarts, OnStarts, OnWork};
+ghost use Rattle.state_context.specs.Rel.{Any};
+ghost use Rattle.state_whole.specs.Whole.{Always, Roomy, Unlent, FromStarts, OnStarts, OnWork};
 ghost use Rattle.on_link.specs.Links.{Handled};
-use context::Context;
 use event::Event;
-use links::Span;
-use whole::Whole;
+use state_context::Context;
+use state_media::Span;
+use state_whole::Whole;
 
 // ---- links and images
 
@@ -22,7 +22,7 @@ pub fn on_enter_link(b: Whole) -> Whole
     ensures { λ r. ⌜ Unlent Always Any onEnterLink b r ⌝ }
 {
     let mut r = b;
-    r.links = links::open_media(b.links, false);
+    r.links = state_media::open_media(b.links, false);
     r
 }
 
@@ -31,8 +31,8 @@ pub fn on_enter_image(b: Whole) -> Whole
     ensures { λ r. ⌜ Unlent Always Any onEnterImage b r ⌝ }
 {
     let mut r = b;
-    r.links = links::open_media(b.links, true);
-    r.context = context::set_alt(b.context, true);
+    r.links = state_media::open_media(b.links, true);
+    r.context = state_context::set_alt(b.context, true);
     r
 }
 
@@ -55,8 +55,8 @@ pub fn on_exit_label(b: Whole, work: &mut [u8], starts: &[usize]) -> Whole
     let mut c = b.context;
     let from = c.buffers.start;
     let n = captured_length(c);
-    r.links = links::store_label(b.links, work, from, n);
-    c.buffers = buffers::drop(b.context.buffers, starts);
+    r.links = state_media::store_label(b.links, work, from, n);
+    c.buffers = state_buffers::drop(b.context.buffers, starts);
     r.context = c;
     r
 }
@@ -68,7 +68,7 @@ pub fn on_exit_label_text(b: Whole, e: Event) -> Whole
     let from = e.from;
     let to = e.to;
     let p = Span { from, to };
-    r.links = links::identify_label(b.links, p);
+    r.links = state_media::identify_label(b.links, p);
     r
 }
 
@@ -80,8 +80,8 @@ fn identify_reference(b: Whole, e: Event, starts: &[usize]) -> Whole
     let from = e.from;
     let to = e.to;
     let p = Span { from, to };
-    r.context = context::drop(b.context, starts);
-    r.links = links::identify_reference(b.links, p);
+    r.context = state_context::drop(b.context, starts);
+    r.links = state_media::identify_reference(b.links, p);
     r
 }
 
@@ -98,8 +98,8 @@ pub fn on_enter_resource(b: Whole, starts: &mut [usize]) -> Whole
     ensures { λ r. ⌜ OnStarts Always Any onEnterResource b (now (starts .entry)) r (now (starts .exit)) ⌝ }
 {
     let mut r = b;
-    r.context = context::open(b.context, starts);
-    r.links = links::empty_destination(b.links);
+    r.context = state_context::open(b.context, starts);
+    r.links = state_media::empty_destination(b.links);
     r
 }
 
@@ -110,9 +110,9 @@ fn store_destination(b: Whole, work: &mut [u8], starts: &[usize]) -> Whole
     let mut c = b.context;
     let from = c.buffers.start;
     let n = captured_length(c);
-    r.links = links::store_destination(b.links, work, from, n);
-    c.buffers = buffers::drop(b.context.buffers, starts);
-    r.context = context::set_encode(c, true);
+    r.links = state_media::store_destination(b.links, work, from, n);
+    c.buffers = state_buffers::drop(b.context.buffers, starts);
+    r.context = state_context::set_encode(c, true);
     r
 }
 
@@ -123,8 +123,8 @@ fn store_title(b: Whole, work: &mut [u8], starts: &[usize]) -> Whole
     let mut c = b.context;
     let from = c.buffers.start;
     let n = captured_length(c);
-    r.links = links::store_title(b.links, work, from, n);
-    c.buffers = buffers::drop(b.context.buffers, starts);
+    r.links = state_media::store_title(b.links, work, from, n);
+    c.buffers = state_buffers::drop(b.context.buffers, starts);
     r.context = c;
     r
 }
@@ -147,8 +147,8 @@ pub fn on_enter_definition(b: Whole, starts: &mut [usize]) -> Whole
     ensures { λ r. ⌜ OnStarts Always Any onEnterDefinition b (now (starts .entry)) r (now (starts .exit)) ⌝ }
 {
     let mut r = b;
-    r.context = context::open(b.context, starts);
-    r.links = links::open_media(b.links, false);
+    r.context = state_context::open(b.context, starts);
+    r.links = state_media::open_media(b.links, false);
     r
 }
 

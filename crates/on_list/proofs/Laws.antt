@@ -17,9 +17,9 @@ use Rattle.machine.specs.Command.{whether}
 use Rattle.machine.specs.Words.{put, lineEnding, tighten, loosen}
 use Rattle.machine.specs.OnList.{onExitList}
 use Rattle.machine.proofs.Outcomes.{never, first-goes}
-use Rattle.context.specs.declared.Context.{Context}
-use Rattle.context.specs.Rel.{Any, Keeps, Sets, Pushes, Tells}
-use Rattle.context.proofs.Commands.{any, seq, sets, puts, whether-yes, whether-no}
+use Rattle.state_context.specs.declared.Context.{Context}
+use Rattle.state_context.specs.Rel.{Any, Keeps, Sets, Pushes, Tells}
+use Rattle.state_context.proofs.Commands.{any, seq, sets, puts, whether-yes, whether-no}
 use Rattle.on_list.specs.Lists.{IsOrdered, OpensList, LooksBack, PushesByOrder}
 
 -- ---- the list's event

@@ -19,14 +19,14 @@ use Rattle.machine.specs.Turn.{Turn, spanOf, sliceOf, asStr, strOf, ownStr}
 use Rattle.machine.specs.Command.{exec}
 use Rattle.machine.specs.Words.{start}
 use Rattle.machine.proofs.Outcomes.{first-goes}
-use Rattle.bounded.specs.Within.{within}
-use Rattle.bounded.proofs.Bounds.{done}
-use Rattle.buffers.specs.declared.Buffers.{Buffers}
-use Rattle.pieces.specs.Pieces.{PushesStart}
-use Rattle.context.specs.declared.Context.{Context}
-use Rattle.context.specs.Rel.{Sees, Keeps}
-use Rattle.context.proofs.Laws.{withBuffers, rel-buffers, pushed}
-use Rattle.context.proofs.Slices.{Sliced, own-slice}
+use Rattle.machine_bounded.specs.Within.{within}
+use Rattle.machine_bounded.proofs.Bounds.{done}
+use Rattle.state_buffers.specs.declared.Buffers.{Buffers}
+use Rattle.write_pieces.specs.Pieces.{PushesStart}
+use Rattle.state_context.specs.declared.Context.{Context}
+use Rattle.state_context.specs.Rel.{Sees, Keeps}
+use Rattle.state_context.proofs.Laws.{withBuffers, rel-buffers, pushed}
+use Rattle.state_context.proofs.Slices.{Sliced, own-slice}
 
 module _ (text : List ℕ) (e : Event) where
   record Started (s u : State) : Type 0 where

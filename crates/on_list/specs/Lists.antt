@@ -12,8 +12,8 @@ use Rattle.machine.specs.Turn.{Turn, lookBack}
 use Rattle.machine.specs.Test.{isOrdered}
 use Rattle.machine.specs.Command.{whether}
 use Rattle.machine.specs.Words.{put}
-use Rattle.context.specs.declared.Context.{Context}
-use Rattle.context.specs.Rel.{Keeps}
+use Rattle.state_context.specs.declared.Context.{Context}
+use Rattle.state_context.specs.Rel.{Keeps}
 
 -- a turn of an ordered list or of another
 pub record IsOrdered (x : Bool) (t : Turn) : Type 0 where

@@ -2,10 +2,10 @@
 ghost use Rattle.machine.specs.Test.{isFirstMarker, isTightParagraph, isEmptyItem};
 ghost use Rattle.machine.specs.Words.{when, unless, put, start, lineEndingIfNeeded};
 ghost use Rattle.machine.specs.OnList.{onEnterList, onExitList, onEnterListItemMarker, onExitListItemValue, onExitListItem};
-ghost use Rattle.context.specs.Rel.{Any, Sees, Keeps, Tells};
+ghost use Rattle.state_context.specs.Rel.{Any, Sees, Keeps, Tells};
 ghost use Rattle.on_list.specs.Lists.{IsOrdered, OpensList, LooksBack, PushesByOrder};
-use context::Context;
 use event::Event;
+use state_context::Context;
 
 // ---- lists
 
@@ -21,9 +21,9 @@ fn push_by_order(
     ensures { λ r. ⌜ PushesByOrder ordered (now (yes .entry)) (now (no .entry)) c (now (captures .entry)) (now (out .entry)) r (now (captures .exit)) (now (out .exit)) ⌝ }
 {
     if ordered {
-        return context::push(c, captures, out, yes);
+        return state_context::push(c, captures, out, yes);
     }
-    context::push(c, captures, out, no)
+    state_context::push(c, captures, out, no)
 }
 
 // No > yet: the first item's value comes first.
@@ -36,17 +36,17 @@ pub fn on_enter_list(
 ) -> Context
     ensures { λ r. ⌜ Keeps (OpensList ordered loose) onEnterList c (now (captures .entry)) (now (out .entry)) r (now (captures .exit)) (now (out .exit)) ⌝ }
 {
-    let tight = context::tighten(c, !loose);
-    let line = context::line_ending_if_needed(tight, captures, out);
+    let tight = state_context::tighten(c, !loose);
+    let line = state_context::line_ending_if_needed(tight, captures, out);
     let r = push_by_order(line, ordered, captures, out, b"<ol", b"<ul");
-    context::set_first(r, true)
+    state_context::set_first(r, true)
 }
 
 pub fn on_exit_list(c: Context, ordered: bool, captures: &mut [u8], out: &mut [u8]) -> Context
     ensures { λ r. ⌜ Keeps (IsOrdered ordered) onExitList c (now (captures .entry)) (now (out .entry)) r (now (captures .exit)) (now (out .exit)) ⌝ }
 {
-    let loose = context::loosen(c);
-    let r = context::line_ending(loose, captures, out);
+    let loose = state_context::loosen(c);
+    let r = state_context::line_ending(loose, captures, out);
     push_by_order(r, ordered, captures, out, b"</ol>", b"</ul>")
 }
 
@@ -55,8 +55,8 @@ pub fn on_exit_list(c: Context, ordered: bool, captures: &mut [u8], out: &mut [u
 fn end_tag(c: Context, captures: &mut [u8], out: &mut [u8]) -> Context
     ensures { λ r. ⌜ Keeps Any (when isFirstMarker (put ">")) c (now (captures .entry)) (now (out .entry)) r (now (captures .exit)) (now (out .exit)) ⌝ }
 {
-    if context::is_first_marker(c) {
-        return context::push(c, captures, out, b">");
+    if state_context::is_first_marker(c) {
+        return state_context::push(c, captures, out, b">");
     }
     c
 }
@@ -65,9 +65,9 @@ pub fn on_enter_list_item_marker(c: Context, captures: &mut [u8], out: &mut [u8]
     ensures { λ r. ⌜ Keeps Any onEnterListItemMarker c (now (captures .entry)) (now (out .entry)) r (now (captures .exit)) (now (out .exit)) ⌝ }
 {
     let list = end_tag(c, captures, out);
-    let line = context::line_ending_if_needed(list, captures, out);
-    let r = context::push(line, captures, out, b"<li>");
-    context::set_first(r, false)
+    let line = state_context::line_ending_if_needed(list, captures, out);
+    let r = state_context::push(line, captures, out, b"<li>");
+    state_context::set_first(r, false)
 }
 
 // The list's start, by the event's slice.
@@ -83,7 +83,7 @@ fn push_start(c: Context, text: &[u8], e: Event, captures: &mut [u8], out: &mut 
         return c;
     }
     let mut r = c;
-    r.buffers = pieces::push_start(c.buffers, captures, out, &text[from..to]);
+    r.buffers = write_pieces::push_start(c.buffers, captures, out, &text[from..to]);
     r
 }
 
@@ -96,7 +96,7 @@ pub fn on_exit_list_item_value(
 ) -> Context
     ensures { λ r. ⌜ Keeps (Sees (now (text .entry)) e) onExitListItemValue c (now (captures .entry)) (now (out .entry)) r (now (captures .exit)) (now (out .exit)) ⌝ }
 {
-    if context::is_first_marker(c) {
+    if state_context::is_first_marker(c) {
         return push_start(c, text, e, captures, out);
     }
     c
@@ -107,7 +107,7 @@ pub fn on_exit_list_item_value(
 fn is_tight_paragraph(c: Context, behind: u8) -> bool
     ensures { λ r. ⌜ Tells (LooksBack behind) isTightParagraph c r ⌝ }
 {
-    context::is_tight(c) & (behind == Event::PARAGRAPH)
+    state_context::is_tight(c) & (behind == Event::PARAGRAPH)
 }
 
 fn end_line(c: Context, behind: u8, captures: &mut [u8], out: &mut [u8]) -> Context
@@ -119,13 +119,13 @@ fn end_line(c: Context, behind: u8, captures: &mut [u8], out: &mut [u8]) -> Cont
     if behind == Event::LIST_ITEM_PREFIX {
         return c;
     }
-    context::line_ending_if_needed(c, captures, out)
+    state_context::line_ending_if_needed(c, captures, out)
 }
 
 pub fn on_exit_list_item(c: Context, behind: u8, captures: &mut [u8], out: &mut [u8]) -> Context
     ensures { λ r. ⌜ Keeps (LooksBack behind) onExitListItem c (now (captures .entry)) (now (out .entry)) r (now (captures .exit)) (now (out .exit)) ⌝ }
 {
-    let line = context::set_slurp(c, false);
+    let line = state_context::set_slurp(c, false);
     let r = end_line(line, behind, captures, out);
-    context::push(r, captures, out, b"</li>")
+    state_context::push(r, captures, out, b"</li>")
 }

@@ -8,13 +8,13 @@ use Rattle.machine.specs.Turn.{Turn}
 use Rattle.machine.specs.Totals.{held, kept}
 use Rattle.machine.specs.Command.{Command, _▸_}
 use Rattle.machine.proofs.Outcomes.{first-goes}
-use Rattle.bounded.specs.Within.{within}
-use Rattle.whole.specs.declared.Whole.{Whole}
-use Rattle.whole.specs.Whole.{World, Built, Handles, OnPage, withOut, withWork}
-use Rattle.show.proofs.Steady.{Steady, room-in, room-out}
+use Rattle.machine_bounded.specs.Within.{within}
+use Rattle.state_whole.specs.declared.Whole.{Whole}
+use Rattle.state_whole.specs.Whole.{World, Built, Handles, OnPage, withOut, withWork}
+use Rattle.write_held.proofs.Steady.{Steady, room-in, room-out}
 use Rattle.on_definition.specs.Definitions.{Known}
 use Rattle.on_definition.proofs.Seeks.{kept-room}
-use Rattle.media_parts.specs.Parts.{OnShown}
+use Rattle.on_media.specs.Parts.{OnShown}
 
 known-out : {text : List ℕ} {b : Whole} {w : World} {s : State} → Built text b w s → held s ≤ 16384 → kept s ≤ 16384 → Known b
 known-out y h k = let e = y .kept .end in record { held = room-out y h; kept = omega arith }

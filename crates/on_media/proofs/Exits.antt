@@ -6,17 +6,17 @@ use Prim.Native.Nat.{ℕ}
 use Rattle.machine.specs.declared.Options.{Options}
 use Rattle.machine.specs.Command.{Command, _▸_}
 use Rattle.machine.specs.Words.{leaveImage, seekDefinition, closeMedia}
-use Rattle.context.specs.Rel.{Any}
-use Rattle.links.specs.declared.Links.{Links}
-use Rattle.links.specs.Links.{Closes}
-use Rattle.whole.specs.declared.Whole.{Whole}
-use Rattle.whole.specs.Quiet.{isQuiet}
-use Rattle.whole.specs.Whole.{Always, Held, Unlent, OnPage, withLinks, withOut, withWork}
-use Rattle.whole.proofs.Media.{closes-media}
-use Rattle.show.proofs.Steady.{quiet-steady}
+use Rattle.state_context.specs.Rel.{Any}
+use Rattle.state_media.specs.declared.Links.{Links}
+use Rattle.state_media.specs.Links.{Closes}
+use Rattle.state_whole.specs.declared.Whole.{Whole}
+use Rattle.state_whole.specs.Quiet.{isQuiet}
+use Rattle.state_whole.specs.Whole.{Always, Held, Unlent, OnPage, withLinks, withOut, withWork}
+use Rattle.state_whole.proofs.Media.{closes-media}
+use Rattle.write_held.proofs.Steady.{quiet-steady}
 use Rattle.on_definition.specs.Definitions.{Known, FromDefinitions}
 use Rattle.on_definition.proofs.Sought.{seek-steady}
-use Rattle.media_parts.specs.Parts.{Chooses, OnShown}
+use Rattle.on_media.specs.Parts.{Chooses, OnShown}
 use Rattle.on_media.specs.Media.{ReadsBy, OnMedia}
 use Rattle.on_media.proofs.Chains.{then-known, narrowed}
 

@@ -14,17 +14,17 @@ use Rattle.machine.specs.Test.{Test, is, isImage, test}
 use Rattle.machine.specs.Command.{Command, nothing, whether, exec}
 use Rattle.machine.specs.Words.{set, leaveImage}
 use Rattle.machine.proofs.Outcomes.{never, first-goes}
-use Rattle.bounded.specs.Within.{one, within}
-use Rattle.bounded.proofs.Bounds.{done}
+use Rattle.machine_bounded.specs.Within.{one, within}
+use Rattle.machine_bounded.proofs.Bounds.{done}
 use Rattle.regions.specs.Regions.{regionAt}
-use Rattle.context.specs.declared.Context.{Context}
-use Rattle.context.specs.Rel.{Any, Sets, Tells}
-use Rattle.links.specs.Links.{IsImage, AnyOlderImage}
-use Rattle.whole.specs.declared.Whole.{Whole}
-use Rattle.whole.specs.Whole.{World, Built, Always, Handles, Unlent, OnPage, withContext, withOut, withWork}
-use Rattle.whole.proofs.Media.{cc-go, newest-there}
+use Rattle.state_context.specs.declared.Context.{Context}
+use Rattle.state_context.specs.Rel.{Any, Sets, Tells}
+use Rattle.state_media.specs.Links.{IsImage, AnyOlderImage}
+use Rattle.state_whole.specs.declared.Whole.{Whole}
+use Rattle.state_whole.specs.Whole.{World, Built, Always, Handles, Unlent, OnPage, withContext, withOut, withWork}
+use Rattle.state_whole.proofs.Media.{cc-go, newest-there}
 use Rattle.on_link.proofs.Lifted.{lifts-sets}
-use Rattle.media_parts.specs.Parts.{OnShown}
+use Rattle.on_media.specs.Parts.{OnShown}
 
 pub record Answers (q : Test) (b : Whole) (x : Bool) : Type 0 where
   pub answers : (text : List ℕ) (w : World) (t : Turn) (s : State) (y : Bool) → Built text b w s → test q t s ≡ go y → y ≡ x

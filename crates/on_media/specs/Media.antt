@@ -5,10 +5,10 @@ use Prim.Native.Nat.{ℕ}
 use Rattle.machine.specs.declared.Options.{Options}
 use Rattle.machine.specs.Turn.{Turn}
 use Rattle.machine.specs.Command.{Command}
-use Rattle.whole.specs.declared.Whole.{Whole}
-use Rattle.whole.specs.Whole.{World, Handles, withWork, withOut}
+use Rattle.state_whole.specs.declared.Whole.{Whole}
+use Rattle.state_whole.specs.Whole.{World, Handles, withWork, withOut}
 use Rattle.on_definition.specs.Definitions.{Reads}
-use Rattle.media_parts.specs.Parts.{Chooses}
+use Rattle.on_media.specs.Parts.{Chooses}
 
 -- a turn of this text under these options
 pub record ReadsBy (text : List ℕ) (o : Options) (t : Turn) : Type 0 where

@@ -1,25 +1,197 @@
-// The end of a link or an image, by its Rust name: where it leads, its label and its title are written.
+// The parts of a link or an image, written: its label, where it leads, its title.
+ghost use Prim.Native.Nat.{_≤_};
+ghost use Rattle.machine.specs.Turn.{urlOf};
+ghost use Rattle.machine.specs.Media.{label, destination, title, titleText};
+ghost use Rattle.machine.specs.Words.{show, when, unless, put, tag, leaveImage};
+ghost use Rattle.state_context.specs.Rel.{Any};
+ghost use Rattle.state_whole.specs.Whole.{Held, OnPage, Always, Unlent};
+ghost use Rattle.write_held.specs.Show.{asIs};
+ghost use Rattle.on_definition.specs.Definitions.{Known};
+ghost use Rattle.on_media.specs.Parts.{Chooses, OnShown, WritesText};
+ghost use Rattle.on_media.specs.Private.{WritesPiece, ShowsOwnTitle, ShowsKeptTitle};
 ghost use Rattle.machine.specs.Set.{alt};
-ghost use Rattle.machine.specs.Media.{label, destination, title};
 ghost use Rattle.machine.specs.Test.{is, isImage};
 ghost use Rattle.machine.specs.Command.{_▸_, whether};
-ghost use Rattle.machine.specs.Words.{when, unless, put, tag, leaveImage, show};
 ghost use Rattle.machine.specs.OnMedia.{onExitMedia};
-ghost use Rattle.context.specs.Rel.{Any};
-ghost use Rattle.whole.specs.Whole.{Always, Held, Unlent, OnPage};
-ghost use Rattle.on_definition.specs.Definitions.{Known};
-ghost use Rattle.media_parts.specs.Parts.{Chooses, OnShown};
 ghost use Rattle.on_media.specs.Media.{ReadsBy, OnMedia};
 use machine::Options;
-use whole::Whole;
+use state_media::Destination;
+use state_media::Text;
+use state_whole::Whole;
+
+// ---- writing
+
+// A text of ours.
+pub fn write_text(b: Whole, work: &mut [u8], out: &mut [u8], s: &[u8]) -> Whole
+    ensures { λ r. ⌜ WritesText (now (s .entry)) b (now (work .entry)) (now (out .entry)) r (now (work .exit)) (now (out .exit)) ⌝ }
+{
+    let mut r = b;
+    let mut c = b.context;
+    c.buffers = write_held::push_text(b.context.buffers, work, out, s);
+    r.context = c;
+    r
+}
+
+fn write_piece(
+    b: Whole,
+    work: &mut [u8],
+    out: &mut [u8],
+    base: usize,
+    place: usize,
+    n: usize,
+) -> Whole
+    requires { ⌜ base ≤ 32768 ⌝ }
+    ensures { λ r. ⌜ WritesPiece asIs base place n b (now (work .entry)) (now (out .entry)) r (now (work .exit)) (now (out .exit)) ⌝ }
+{
+    let mut r = b;
+    let mut c = b.context;
+    c.buffers = write_held::push_piece(b.context.buffers, work, out, base, place, n);
+    r.context = c;
+    r
+}
+
+fn write_url(
+    b: Whole,
+    work: &mut [u8],
+    out: &mut [u8],
+    base: usize,
+    place: usize,
+    n: usize,
+    options: Options,
+    image: bool,
+) -> Whole
+    requires { ⌜ base ≤ 32768 ⌝ }
+    ensures { λ r. ⌜ WritesPiece (urlOf options image) base place n b (now (work .entry)) (now (out .entry)) r (now (work .exit)) (now (out .exit)) ⌝ }
+{
+    let mut r = b;
+    let mut c = b.context;
+    c.buffers = write_held::push_url_piece(
+        b.context.buffers,
+        work,
+        out,
+        base,
+        place,
+        n,
+        options,
+        image,
+    );
+    r.context = c;
+    r
+}
+
+fn write_title(
+    b: Whole,
+    work: &mut [u8],
+    out: &mut [u8],
+    base: usize,
+    place: usize,
+    n: usize,
+) -> Whole
+    requires { ⌜ base ≤ 32768 ⌝ }
+    ensures { λ r. ⌜ WritesPiece titleText base place n b (now (work .entry)) (now (out .entry)) r (now (work .exit)) (now (out .exit)) ⌝ }
+{
+    let mut r = b;
+    let mut c = b.context;
+    let named = write_held::push_text(b.context.buffers, work, out, b" title=\"");
+    let shown = write_held::push_piece(named, work, out, base, place, n);
+    c.buffers = write_held::push_text(shown, work, out, b"\"");
+    r.context = c;
+    r
+}
+
+// ---- the parts of the newest medium
+
+pub fn show_label(b: Whole, work: &mut [u8], out: &mut [u8]) -> Whole
+    ensures { λ r. ⌜ OnPage Held Any (show label) b (now (work .entry)) (now (out .entry)) r (now (work .exit)) (now (out .exit)) ⌝ }
+{
+    let l = b.links;
+    let m = l.media;
+    let x = m.label;
+    match x {
+        Text::Unset => b,
+        Text::Is(p) => write_piece(b, work, out, 16384, p.place, p.length),
+    }
+}
+
+pub fn show_destination(
+    b: Whole,
+    options: Options,
+    work: &mut [u8],
+    out: &mut [u8],
+    definitions: &[usize],
+) -> Whole
+    ensures { λ r. ⌜ OnShown Known (Chooses options) (show destination) b (now (work .entry)) (now (out .entry)) (now (definitions .entry)) r (now (work .exit)) (now (out .exit)) ⌝ }
+{
+    let l = b.links;
+    let image = state_media::is_image(l);
+    let m = l.media;
+    let d = m.destination;
+    match d {
+        Destination::Nowhere => b,
+        Destination::Own(p) => write_url(b, work, out, 16384, p.place, p.length, options, image),
+        Destination::Defined(k) => {
+            let place = state_kept::definition_place(definitions, k);
+            let n = state_kept::definition_length(definitions, k);
+            write_url(b, work, out, 32768, place, n, options, image)
+        }
+    }
+}
+
+fn show_own_title(b: Whole, work: &mut [u8], out: &mut [u8]) -> Whole
+    ensures { λ r. ⌜ ShowsOwnTitle b (now (work .entry)) (now (out .entry)) r (now (work .exit)) (now (out .exit)) ⌝ }
+{
+    let l = b.links;
+    let m = l.media;
+    let x = m.title;
+    match x {
+        Text::Unset => b,
+        Text::Is(p) => write_title(b, work, out, 16384, p.place, p.length),
+    }
+}
+
+// It stands behind the definition's destination.
+fn show_kept_title(
+    b: Whole,
+    k: usize,
+    work: &mut [u8],
+    out: &mut [u8],
+    definitions: &[usize],
+) -> Whole
+    ensures { λ r. ⌜ ShowsKeptTitle k b (now (work .entry)) (now (out .entry)) (now (definitions .entry)) r (now (work .exit)) (now (out .exit)) ⌝ }
+{
+    let word = state_kept::definition_title(definitions, k);
+    if word == 0 {
+        return b;
+    }
+    let place = state_kept::definition_place(definitions, k);
+    let n = state_kept::definition_length(definitions, k);
+    let from = on_definition::at_most(place);
+    let skipped = on_definition::at_most(n);
+    write_title(b, work, out, 32768, from + skipped, word - 1)
+}
+
+pub fn show_title(b: Whole, work: &mut [u8], out: &mut [u8], definitions: &[usize]) -> Whole
+    ensures { λ r. ⌜ OnShown Known Any (show title) b (now (work .entry)) (now (out .entry)) (now (definitions .entry)) r (now (work .exit)) (now (out .exit)) ⌝ }
+{
+    let l = b.links;
+    let m = l.media;
+    let d = m.destination;
+    match d {
+        Destination::Nowhere => show_own_title(b, work, out),
+        Destination::Own(_) => show_own_title(b, work, out),
+        Destination::Defined(k) => show_kept_title(b, k, work, out, definitions),
+    }
+}
+
+// The end of a link or an image, by its Rust name: where it leads, its label and its title are written.
 
 // Whether this is still in the text of an image.
 fn leave_image(b: Whole) -> Whole
     ensures { λ r. ⌜ Unlent Always Any leaveImage b r ⌝ }
 {
     let mut r = b;
-    let x = links::in_image(b.links);
-    r.context = context::set_alt(b.context, x);
+    let x = state_media::in_image(b.links);
+    r.context = state_context::set_alt(b.context, x);
     r
 }
 
@@ -28,17 +200,17 @@ fn leave_image(b: Whole) -> Whole
 fn put_name(b: Whole, work: &mut [u8], out: &mut [u8]) -> Whole
     ensures { λ r. ⌜ OnPage Always Any (whether isImage (put "<img src=\"") (put "<a href=\"")) b (now (work .entry)) (now (out .entry)) r (now (work .exit)) (now (out .exit)) ⌝ }
 {
-    if links::is_image(b.links) {
-        return media_parts::write_text(b, work, out, b"<img src=\"");
+    if state_media::is_image(b.links) {
+        return write_text(b, work, out, b"<img src=\"");
     }
-    media_parts::write_text(b, work, out, b"<a href=\"")
+    write_text(b, work, out, b"<a href=\"")
 }
 
 fn put_alt(b: Whole, work: &mut [u8], out: &mut [u8]) -> Whole
     ensures { λ r. ⌜ OnPage Always Any (when isImage (put "\" alt=\"")) b (now (work .entry)) (now (out .entry)) r (now (work .exit)) (now (out .exit)) ⌝ }
 {
-    if links::is_image(b.links) {
-        return media_parts::write_text(b, work, out, b"\" alt=\"");
+    if state_media::is_image(b.links) {
+        return write_text(b, work, out, b"\" alt=\"");
     }
     b
 }
@@ -46,8 +218,8 @@ fn put_alt(b: Whole, work: &mut [u8], out: &mut [u8]) -> Whole
 fn put_slash(b: Whole, work: &mut [u8], out: &mut [u8]) -> Whole
     ensures { λ r. ⌜ OnPage Always Any (when isImage (put " /")) b (now (work .entry)) (now (out .entry)) r (now (work .exit)) (now (out .exit)) ⌝ }
 {
-    if links::is_image(b.links) {
-        return media_parts::write_text(b, work, out, b" /");
+    if state_media::is_image(b.links) {
+        return write_text(b, work, out, b" /");
     }
     b
 }
@@ -55,10 +227,10 @@ fn put_slash(b: Whole, work: &mut [u8], out: &mut [u8]) -> Whole
 fn put_end_tag(b: Whole, work: &mut [u8], out: &mut [u8]) -> Whole
     ensures { λ r. ⌜ OnPage Always Any (tag "</a>") b (now (work .entry)) (now (out .entry)) r (now (work .exit)) (now (out .exit)) ⌝ }
 {
-    if context::is_alt(b.context) {
+    if state_context::is_alt(b.context) {
         return b;
     }
-    media_parts::write_text(b, work, out, b"</a>")
+    write_text(b, work, out, b"</a>")
 }
 
 // ---- the end of one: within an image, the label alone
@@ -72,19 +244,19 @@ fn push_start(
 ) -> Whole
     ensures { λ r. ⌜ OnShown Known (Chooses options) (unless (is alt) (whether isImage (put "<img src=\"") (put "<a href=\"") ▸ show destination ▸ when isImage (put "\" alt=\""))) b (now (work .entry)) (now (out .entry)) (now (definitions .entry)) r (now (work .exit)) (now (out .exit)) ⌝ }
 {
-    if context::is_alt(b.context) {
+    if state_context::is_alt(b.context) {
         return b;
     }
     let named = put_name(b, work, out);
-    let shown = media_parts::show_destination(named, options, work, out, definitions);
+    let shown = show_destination(named, options, work, out, definitions);
     put_alt(shown, work, out)
 }
 
 fn push_label(b: Whole, work: &mut [u8], out: &mut [u8]) -> Whole
     ensures { λ r. ⌜ OnPage Held Any (when isImage (show label)) b (now (work .entry)) (now (out .entry)) r (now (work .exit)) (now (out .exit)) ⌝ }
 {
-    if links::is_image(b.links) {
-        return media_parts::show_label(b, work, out);
+    if state_media::is_image(b.links) {
+        return show_label(b, work, out);
     }
     b
 }
@@ -92,22 +264,22 @@ fn push_label(b: Whole, work: &mut [u8], out: &mut [u8]) -> Whole
 fn push_end(b: Whole, work: &mut [u8], out: &mut [u8], definitions: &[usize]) -> Whole
     ensures { λ r. ⌜ OnShown Known Any (unless (is alt) (put "\"" ▸ show title ▸ when isImage (put " /") ▸ put ">")) b (now (work .entry)) (now (out .entry)) (now (definitions .entry)) r (now (work .exit)) (now (out .exit)) ⌝ }
 {
-    if context::is_alt(b.context) {
+    if state_context::is_alt(b.context) {
         return b;
     }
-    let quoted = media_parts::write_text(b, work, out, b"\"");
-    let titled = media_parts::show_title(quoted, work, out, definitions);
+    let quoted = write_text(b, work, out, b"\"");
+    let titled = show_title(quoted, work, out, definitions);
     let slashed = put_slash(titled, work, out);
-    media_parts::write_text(slashed, work, out, b">")
+    write_text(slashed, work, out, b">")
 }
 
 fn push_text(b: Whole, work: &mut [u8], out: &mut [u8]) -> Whole
     ensures { λ r. ⌜ OnPage Held Any (unless isImage (show label ▸ tag "</a>")) b (now (work .entry)) (now (out .entry)) r (now (work .exit)) (now (out .exit)) ⌝ }
 {
-    if links::is_image(b.links) {
+    if state_media::is_image(b.links) {
         return b;
     }
-    let shown = media_parts::show_label(b, work, out);
+    let shown = show_label(b, work, out);
     put_end_tag(shown, work, out)
 }
 
@@ -128,6 +300,6 @@ pub fn on_exit_media(
     let ended = push_end(labelled, work, out, definitions);
     let shown = push_text(ended, work, out);
     let mut r = shown;
-    r.links = links::close_media(shown.links);
+    r.links = state_media::close_media(shown.links);
     r
 }

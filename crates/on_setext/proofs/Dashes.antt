@@ -12,8 +12,8 @@ use Rattle.machine.specs.Outcome.{go, _>>=_, need}
 use Rattle.machine.specs.Turn.{Turn}
 use Rattle.machine.specs.Test.{isUnderlinedByDashes, test}
 use Rattle.machine.proofs.Outcomes.{never}
-use Rattle.context.specs.declared.Context.{Context}
-use Rattle.context.specs.Rel.{Sees, Tells}
+use Rattle.state_context.specs.declared.Context.{Context}
+use Rattle.state_context.specs.Rel.{Sees, Tells}
 use Rattle.on_setext.specs.Setext.{TellsDash, Underlined}
 
 pub tells-dashes : {c : Context} {x : Bool} → Tells (Underlined x) isUnderlinedByDashes c x

@@ -16,21 +16,21 @@ use Rattle.machine.specs.Totals.{size, mediaSizes, held}
 use Rattle.machine.specs.Command.{exec}
 use Rattle.machine.specs.Words.{release}
 use Rattle.machine.proofs.Outcomes.{never}
-use Rattle.bounded.specs.Within.{within}
-use Rattle.bounded.proofs.Bounds.{done}
+use Rattle.machine_bounded.specs.Within.{within}
+use Rattle.machine_bounded.proofs.Bounds.{done}
 use Rattle.regions.specs.Regions.{regionAt}
-use Rattle.buffers.specs.declared.Buffers.{Buffers}
-use Rattle.context.proofs.Laws.{withBuffers}
-use Rattle.links.specs.declared.Links.{Links}
-use Rattle.links.specs.declared.Piece.{Piece}
-use Rattle.links.specs.declared.Text.the-variants as T
-use Rattle.links.specs.Links.{PieceIs, TextIs, Releases}
-use Rattle.whole.specs.declared.Whole.{Whole}
-use Rattle.whole.specs.Whole.{World, Built, Held, OnPage, withLinks, withContext}
-use Rattle.whole.proofs.Parts.{rel-alike, keeps-same}
-use Rattle.whole.proofs.Media.{cc-go}
-use Rattle.whole.proofs.Shown.{shown}
-use Rattle.show.specs.Show.{asIs, ShowsPiece}
+use Rattle.state_buffers.specs.declared.Buffers.{Buffers}
+use Rattle.state_context.proofs.Laws.{withBuffers}
+use Rattle.state_media.specs.declared.Links.{Links}
+use Rattle.state_media.specs.declared.Piece.{Piece}
+use Rattle.state_media.specs.declared.Text.the-variants as T
+use Rattle.state_media.specs.Links.{PieceIs, TextIs, Releases}
+use Rattle.state_whole.specs.declared.Whole.{Whole}
+use Rattle.state_whole.specs.Whole.{World, Built, Held, OnPage, withLinks, withContext}
+use Rattle.state_whole.proofs.Parts.{rel-alike, keeps-same}
+use Rattle.state_whole.proofs.Media.{cc-go}
+use Rattle.state_whole.proofs.Shown.{shown}
+use Rattle.write_held.specs.Show.{asIs, ShowsPiece}
 
 module _ {b : Whole} {w : World} {text : List ℕ} {s : State} where
   -- where the end of the held bytes shows room, there is room

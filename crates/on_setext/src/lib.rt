@@ -2,13 +2,13 @@
 ghost use Rattle.machine.specs.Command.{_▸_};
 ghost use Rattle.machine.specs.Words.{put, lineEndingIfNeeded, release};
 ghost use Rattle.machine.specs.OnFlow.{setextRank, onExitHeadingSetextText, onExitHeadingSetextUnderlineSequence};
-ghost use Rattle.context.specs.Rel.{Any, Sees, Keeps};
-ghost use Rattle.whole.specs.Whole.{Always, Held, Roomy, OnWork, OnPage};
+ghost use Rattle.state_context.specs.Rel.{Any, Sees, Keeps};
+ghost use Rattle.state_whole.specs.Whole.{Always, Held, Roomy, OnWork, OnPage};
 ghost use Rattle.on_setext.specs.Setext.{Underlined, TellsDash};
-use context::Context;
 use event::Event;
-use links::Text;
-use whole::Whole;
+use state_context::Context;
+use state_media::Text;
+use state_whole::Whole;
 
 pub fn on_exit_heading_setext_text(b: Whole, work: &mut [u8], starts: &[usize]) -> Whole
     ensures { λ r. ⌜ OnWork Roomy Any onExitHeadingSetextText b (now (work .entry)) (now (starts .entry)) r (now (work .exit)) ⌝ }
@@ -17,9 +17,9 @@ pub fn on_exit_heading_setext_text(b: Whole, work: &mut [u8], starts: &[usize]) 
     let mut c = b.context;
     let from = c.buffers.start;
     let n = on_link::captured_length(c);
-    r.links = links::hold(b.links, work, from, n);
-    c.buffers = buffers::drop(b.context.buffers, starts);
-    r.context = context::set_slurp(c, true);
+    r.links = state_media::hold(b.links, work, from, n);
+    c.buffers = state_buffers::drop(b.context.buffers, starts);
+    r.context = state_context::set_slurp(c, true);
     r
 }
 
@@ -40,26 +40,26 @@ fn push_rank(c: Context, dashes: bool, captures: &mut [u8], out: &mut [u8]) -> C
     ensures { λ r. ⌜ Keeps (Underlined dashes) setextRank c (now (captures .entry)) (now (out .entry)) r (now (captures .exit)) (now (out .exit)) ⌝ }
 {
     if dashes {
-        return context::push(c, captures, out, b"2");
+        return state_context::push(c, captures, out, b"2");
     }
-    context::push(c, captures, out, b"1")
+    state_context::push(c, captures, out, b"1")
 }
 
 fn push_start(c: Context, dashes: bool, captures: &mut [u8], out: &mut [u8]) -> Context
     ensures { λ r. ⌜ Keeps (Underlined dashes) (lineEndingIfNeeded ▸ put "<h" ▸ setextRank ▸ put ">") c (now (captures .entry)) (now (out .entry)) r (now (captures .exit)) (now (out .exit)) ⌝ }
 {
-    let line = context::line_ending_if_needed(c, captures, out);
-    let open = context::push(line, captures, out, b"<h");
+    let line = state_context::line_ending_if_needed(c, captures, out);
+    let open = state_context::push(line, captures, out, b"<h");
     let r = push_rank(open, dashes, captures, out);
-    context::push(r, captures, out, b">")
+    state_context::push(r, captures, out, b">")
 }
 
 fn push_end(c: Context, dashes: bool, captures: &mut [u8], out: &mut [u8]) -> Context
     ensures { λ r. ⌜ Keeps (Underlined dashes) (put "</h" ▸ setextRank ▸ put ">") c (now (captures .entry)) (now (out .entry)) r (now (captures .exit)) (now (out .exit)) ⌝ }
 {
-    let close = context::push(c, captures, out, b"</h");
+    let close = state_context::push(c, captures, out, b"</h");
     let r = push_rank(close, dashes, captures, out);
-    context::push(r, captures, out, b">")
+    state_context::push(r, captures, out, b">")
 }
 
 fn start_heading(b: Whole, dashes: bool, work: &mut [u8], out: &mut [u8]) -> Whole
@@ -95,9 +95,16 @@ fn release_text(b: Whole, work: &mut [u8], out: &mut [u8]) -> Whole
         Text::Is(p) => {
             let mut r = b;
             let mut c = b.context;
-            c.buffers = show::push_piece(b.context.buffers, work, out, 16384, p.place, p.length);
+            c.buffers = write_held::push_piece(
+                b.context.buffers,
+                work,
+                out,
+                16384,
+                p.place,
+                p.length,
+            );
             r.context = c;
-            r.links = links::release(b.links);
+            r.links = state_media::release(b.links);
             r
         }
     }

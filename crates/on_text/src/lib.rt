@@ -1,45 +1,45 @@
 // Handlers of what stands in a line, by their Rust names.
 ghost use Rattle.machine.specs.OnText.{onEnterEmphasis, onExitEmphasis, onEnterStrong, onExitStrong, onExitBreak, onExitHtml, onEnterHtmlText, onEnterHtmlFlow, onExitHtmlData, onExitData, onExitCharacterReferenceMarker, onExitCharacterReferenceMarkerNumeric, onExitCharacterReferenceMarkerHexadecimal, onExitLineEnding, onExitBlankLineEnding, onEnterRawText};
 ghost use Rattle.machine.specs.OnMedia.{onEnterBuffer, onExitDrop};
-ghost use Rattle.context.specs.Rel.{Any, Sees, SeesEnding, HtmlAllowed, IsLast, Keeps, Opens, Begins, Ends, Sets, SetsFor};
+ghost use Rattle.state_context.specs.Rel.{Any, Sees, SeesEnding, HtmlAllowed, IsLast, Keeps, Opens, Begins, Ends, Sets, SetsFor};
 use character_reference::Marker;
-use context::Context;
 use event::Event;
+use state_context::Context;
 
 pub fn on_enter_emphasis(c: Context, captures: &mut [u8], out: &mut [u8]) -> Context
     ensures { λ r. ⌜ Keeps Any onEnterEmphasis c (now (captures .entry)) (now (out .entry)) r (now (captures .exit)) (now (out .exit)) ⌝ }
 {
-    context::push_tag(c, captures, out, b"<em>")
+    state_context::push_tag(c, captures, out, b"<em>")
 }
 
 pub fn on_exit_emphasis(c: Context, captures: &mut [u8], out: &mut [u8]) -> Context
     ensures { λ r. ⌜ Keeps Any onExitEmphasis c (now (captures .entry)) (now (out .entry)) r (now (captures .exit)) (now (out .exit)) ⌝ }
 {
-    context::push_tag(c, captures, out, b"</em>")
+    state_context::push_tag(c, captures, out, b"</em>")
 }
 
 pub fn on_enter_strong(c: Context, captures: &mut [u8], out: &mut [u8]) -> Context
     ensures { λ r. ⌜ Keeps Any onEnterStrong c (now (captures .entry)) (now (out .entry)) r (now (captures .exit)) (now (out .exit)) ⌝ }
 {
-    context::push_tag(c, captures, out, b"<strong>")
+    state_context::push_tag(c, captures, out, b"<strong>")
 }
 
 pub fn on_exit_strong(c: Context, captures: &mut [u8], out: &mut [u8]) -> Context
     ensures { λ r. ⌜ Keeps Any onExitStrong c (now (captures .entry)) (now (out .entry)) r (now (captures .exit)) (now (out .exit)) ⌝ }
 {
-    context::push_tag(c, captures, out, b"</strong>")
+    state_context::push_tag(c, captures, out, b"</strong>")
 }
 
 pub fn on_exit_break(c: Context, captures: &mut [u8], out: &mut [u8]) -> Context
     ensures { λ r. ⌜ Keeps Any onExitBreak c (now (captures .entry)) (now (out .entry)) r (now (captures .exit)) (now (out .exit)) ⌝ }
 {
-    context::push_tag(c, captures, out, b"<br />")
+    state_context::push_tag(c, captures, out, b"<br />")
 }
 
 pub fn on_exit_html(c: Context) -> Context
     ensures { λ r. ⌜ Sets onExitHtml c r ⌝ }
 {
-    context::set_encode(c, true)
+    state_context::set_encode(c, true)
 }
 
 // ---- html
@@ -48,7 +48,7 @@ pub fn on_enter_html_text(c: Context, allowed: bool) -> Context
     ensures { λ r. ⌜ SetsFor (HtmlAllowed allowed) onEnterHtmlText c r ⌝ }
 {
     if allowed {
-        return context::set_encode(c, false);
+        return state_context::set_encode(c, false);
     }
     c
 }
@@ -56,7 +56,7 @@ pub fn on_enter_html_text(c: Context, allowed: bool) -> Context
 pub fn on_enter_html_flow(c: Context, allowed: bool, captures: &mut [u8], out: &mut [u8]) -> Context
     ensures { λ r. ⌜ Keeps (HtmlAllowed allowed) onEnterHtmlFlow c (now (captures .entry)) (now (out .entry)) r (now (captures .exit)) (now (out .exit)) ⌝ }
 {
-    let r = context::line_ending_if_needed(c, captures, out);
+    let r = state_context::line_ending_if_needed(c, captures, out);
     on_enter_html_text(r, allowed)
 }
 
@@ -69,7 +69,7 @@ pub fn on_exit_html_data(
 ) -> Context
     ensures { λ r. ⌜ Keeps (Sees (now (text .entry)) e) onExitHtmlData c (now (captures .entry)) (now (out .entry)) r (now (captures .exit)) (now (out .exit)) ⌝ }
 {
-    context::push_slice(c, text, e, captures, out)
+    state_context::push_slice(c, text, e, captures, out)
 }
 
 // ---- data
@@ -83,25 +83,25 @@ pub fn on_exit_data(
 ) -> Context
     ensures { λ r. ⌜ Keeps (Sees (now (text .entry)) e) onExitData c (now (captures .entry)) (now (out .entry)) r (now (captures .exit)) (now (out .exit)) ⌝ }
 {
-    context::push_slice(c, text, e, captures, out)
+    state_context::push_slice(c, text, e, captures, out)
 }
 
 pub fn on_exit_character_reference_marker(c: Context) -> Context
     ensures { λ r. ⌜ Sets onExitCharacterReferenceMarker c r ⌝ }
 {
-    context::set_marker(c, Marker::Named)
+    state_context::set_marker(c, Marker::Named)
 }
 
 pub fn on_exit_character_reference_marker_numeric(c: Context) -> Context
     ensures { λ r. ⌜ Sets onExitCharacterReferenceMarkerNumeric c r ⌝ }
 {
-    context::set_marker(c, Marker::Decimal)
+    state_context::set_marker(c, Marker::Decimal)
 }
 
 pub fn on_exit_character_reference_marker_hexadecimal(c: Context) -> Context
     ensures { λ r. ⌜ Sets onExitCharacterReferenceMarkerHexadecimal c r ⌝ }
 {
-    context::set_marker(c, Marker::Hexadecimal)
+    state_context::set_marker(c, Marker::Hexadecimal)
 }
 
 // ---- line endings
@@ -117,16 +117,16 @@ pub fn on_exit_line_ending(
 ) -> Context
     ensures { λ r. ⌜ Keeps (SeesEnding (now (text .entry)) e behind) onExitLineEnding c (now (captures .entry)) (now (out .entry)) r (now (captures .exit)) (now (out .exit)) ⌝ }
 {
-    if context::is_raw(c) {
-        return context::push(c, captures, out, b" ");
+    if state_context::is_raw(c) {
+        return state_context::push(c, captures, out, b" ");
     }
-    if context::is_slurping(c) {
-        return context::set_slurp(c, false);
+    if state_context::is_slurping(c) {
+        return state_context::set_slurp(c, false);
     }
     if behind {
-        return context::set_slurp(c, false);
+        return state_context::set_slurp(c, false);
     }
-    context::push_slice(c, text, e, captures, out)
+    state_context::push_slice(c, text, e, captures, out)
 }
 
 pub fn on_exit_blank_line_ending(
@@ -137,9 +137,9 @@ pub fn on_exit_blank_line_ending(
 ) -> Context
     ensures { λ r. ⌜ Keeps (IsLast last) onExitBlankLineEnding c (now (captures .entry)) (now (out .entry)) r (now (captures .exit)) (now (out .exit)) ⌝ }
 {
-    let r = context::set_slurp(c, false);
+    let r = state_context::set_slurp(c, false);
     if last {
-        return context::line_ending_if_needed(r, captures, out);
+        return state_context::line_ending_if_needed(r, captures, out);
     }
     r
 }
@@ -149,13 +149,13 @@ pub fn on_exit_blank_line_ending(
 pub fn on_enter_buffer(c: Context, starts: &mut [usize]) -> Context
     ensures { λ r. ⌜ Begins onEnterBuffer c (now (starts .entry)) r (now (starts .exit)) ⌝ }
 {
-    context::open(c, starts)
+    state_context::open(c, starts)
 }
 
 pub fn on_exit_drop(c: Context, starts: &[usize]) -> Context
     ensures { λ r. ⌜ Ends onExitDrop c (now (starts .entry)) r ⌝ }
 {
-    context::drop(c, starts)
+    state_context::drop(c, starts)
 }
 
 // ---- code text
@@ -168,7 +168,7 @@ pub fn on_enter_raw_text(
 ) -> Context
     ensures { λ r. ⌜ Opens Any onEnterRawText c (now (captures .entry)) (now (starts .entry)) (now (out .entry)) r (now (captures .exit)) (now (starts .exit)) (now (out .exit)) ⌝ }
 {
-    let raw = context::set_raw(c, true);
-    let r = context::push_tag(raw, captures, out, b"<code>");
-    context::open(r, starts)
+    let raw = state_context::set_raw(c, true);
+    let r = state_context::push_tag(raw, captures, out, b"<code>");
+    state_context::open(r, starts)
 }

@@ -2,19 +2,19 @@
 use mathlib.Core.Path.{_≡_, sym, _∙_}
 use mathlib.Core.List.{List}
 use Prim.Native.Nat.{ℕ}
-use Rattle.written.specs.declared.Written.{Written}
-use Rattle.written.specs.Written.{numberOf, valueOf, Wrote}
-use Rattle.written.proofs.Laws as W
-use Rattle.checker.specs.declared.Checked.{Checked}
-use Rattle.checker.specs.Checked.{Checks}
-use Rattle.checker.proofs.Numbers as C
+use Rattle.call_text_answer.specs.declared.Written.{Written}
+use Rattle.call_text_answer.specs.Written.{numberOf, valueOf, Wrote}
+use Rattle.call_text_answer.proofs.Laws as W
+use Rattle.check_list.specs.declared.Checked.{Checked}
+use Rattle.check_list.specs.Checked.{Checks}
+use Rattle.check_list.proofs.Numbers as C
 use Rattle.machine.specs.declared.Options.{Options}
-use Rattle.built.specs.declared.Built.{Built}
-use Rattle.build.specs.Build.{Builds}
-use Rattle.build.proofs.Exactly as B
-use Rattle.bundle.specs.declared.Answer.{Answer}
-use Rattle.bundle.specs.Read.{HasRead}
-use Rattle.bundle.proofs.Bundle as R
+use Rattle.call_build_answer.specs.declared.Built.{Built}
+use Rattle.call_build.specs.Build.{Builds}
+use Rattle.call_build.proofs.Exactly as B
+use Rattle.bundle_read.specs.declared.Answer.{Answer}
+use Rattle.bundle_read.specs.Read.{HasRead}
+use Rattle.bundle_read.proofs.Bundle as R
 use Rattle.bundle_writer.specs.declared.Packed.{Packed}
 use Rattle.bundle_writer.specs.Packed.{HasPacked}
 use Rattle.bundle_writer.proofs.Call as P

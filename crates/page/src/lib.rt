@@ -6,57 +6,57 @@ ghost use Rattle.encode.specs.Encode.{encodeOf};
 ghost use Rattle.sanitize_uri.specs.Url.{sanitizeOf};
 ghost use Rattle.sanitize_uri.specs.Protocols.{linkSchemes, imageSchemes, sanitizeWithProtocolsOf};
 ghost use Rattle.normalize_identifier.specs.Identity.{identityOf};
-ghost use Rattle.bundle.specs.Read.{HasRead};
+ghost use Rattle.bundle_read.specs.Read.{HasRead};
 ghost use Rattle.bundle_writer.specs.Packed.{HasPacked};
 ghost use Rattle.bundle_parts.specs.Feed.{standOf, startOf, feedOf, endOf};
-ghost use Rattle.checker.specs.Checked.{Checks};
-ghost use Rattle.build.specs.Build.{Builds};
-ghost use Rattle.written.specs.Written.{numberOf, valueOf, Wrote};
+ghost use Rattle.check_list.specs.Checked.{Checks};
+ghost use Rattle.call_build.specs.Build.{Builds};
+ghost use Rattle.call_text_answer.specs.Written.{numberOf, valueOf, Wrote};
 use bundle_parts::Progress;
 use bundle_parts::Reader;
 use bundle_writer::Packed;
-use written::Written;
+use call_text_answer::Written;
 
 // Escapes a text for HTML; without `encoding` only NUL is replaced.
 pub fn escape(text: &[u8], encoding: bool, out: &mut [u8]) -> Written
     ensures { λ r. ⌜ Wrote (now (text .entry)) (encodeOf encoding (now (text .entry))) (now (out .entry)) (now (out .exit)) r ⌝ }
 {
-    texts::escape(text, encoding, out)
+    call_text::escape(text, encoding, out)
 }
 
 // Makes a URL safe for an attribute.
 pub fn sanitize(url: &[u8], out: &mut [u8]) -> Written
     ensures { λ r. ⌜ Wrote (now (url .entry)) (sanitizeOf (now (url .entry))) (now (out .entry)) (now (out .exit)) r ⌝ }
 {
-    texts::sanitize(url, out)
+    call_text::sanitize(url, out)
 }
 
 // The same for a link: a URL with another scheme than the six of RULES R11.5 becomes empty.
 pub fn sanitize_link(url: &[u8], out: &mut [u8]) -> Written
     ensures { λ r. ⌜ Wrote (now (url .entry)) (sanitizeWithProtocolsOf linkSchemes (now (url .entry))) (now (out .entry)) (now (out .exit)) r ⌝ }
 {
-    texts::sanitize_link(url, out)
+    call_text::sanitize_link(url, out)
 }
 
 // The same for an image, whose schemes are http and https.
 pub fn sanitize_image(url: &[u8], out: &mut [u8]) -> Written
     ensures { λ r. ⌜ Wrote (now (url .entry)) (sanitizeWithProtocolsOf imageSchemes (now (url .entry))) (now (out .entry)) (now (out .exit)) r ⌝ }
 {
-    texts::sanitize_image(url, out)
+    call_text::sanitize_image(url, out)
 }
 
 // What a label is compared by.
 pub fn identity(label: &[u8], out: &mut [u8]) -> Written
     ensures { λ r. ⌜ Wrote (now (label .entry)) (identityOf (now (label .entry))) (now (out .entry)) (now (out .exit)) r ⌝ }
 {
-    texts::identity(label, out)
+    call_text::identity(label, out)
 }
 
 // Whether a text and its events meet the rules: RULES R7, refusals 1 to 7.
-pub fn check(text: &[u8], events: &[u8]) -> checker::Checked
+pub fn check(text: &[u8], events: &[u8]) -> check_list::Checked
     ensures { λ r. ⌜ Checks (now (text .entry)) (now (events .entry)) r ⌝ }
 {
-    checker::check(text, events)
+    check_list::check(text, events)
 }
 
 // The page of a note with zeros behind it; or a refusal, with nothing in the output. Every work byte is zero afterwards.
@@ -66,17 +66,17 @@ pub fn build(
     options: machine::Options,
     out: &mut [u8],
     work: &mut [u8],
-) -> built::Built
+) -> call_build_answer::Built
     ensures { λ r. ⌜ Builds (now (text .entry)) (now (events .entry)) options (now (out .entry)) (now (work .entry)) (now (out .exit)) (now (work .exit)) r ⌝ }
 {
-    build::build(text, events, options, out, work)
+    call_build::build(text, events, options, out, work)
 }
 
 // Reads the text and the events of a note bundle.
-pub fn read_bundle(bundle: &[u8], text: &mut [u8], events: &mut [u8]) -> bundle::Answer
+pub fn read_bundle(bundle: &[u8], text: &mut [u8], events: &mut [u8]) -> bundle_read::Answer
     ensures { λ r. ⌜ HasRead (now (bundle .entry)) (now (text .entry)) (now (events .entry)) (now (text .exit)) (now (events .exit)) r ⌝ }
 {
-    bundle::read(bundle, text, events)
+    bundle_read::read(bundle, text, events)
 }
 
 // Writes the note bundle of a text, events and an edition, with zeros behind it; or a refusal, with nothing in the output.
@@ -119,12 +119,12 @@ pub fn bundle_so_far(reader: Reader) -> Progress
 pub fn number(w: Written) -> u32
     ensures { λ r. ⌜ r ≡ numberOf w ⌝ }
 {
-    written::number(w)
+    call_text_answer::number(w)
 }
 
 // The length, or a refusal's place, which is 0.
 pub fn value(w: Written) -> usize
     ensures { λ r. ⌜ r ≡ valueOf w ⌝ }
 {
-    written::value(w)
+    call_text_answer::value(w)
 }

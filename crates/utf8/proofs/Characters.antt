@@ -7,12 +7,12 @@ use native.Mathlib.Omega.{arith}
 use lib.Dec.{T, ltb→lt}
 use lib.ListN.{length, length-append}
 use Rattle.lent.specs.Bytes.{between}
-use Rattle.utf8_due.specs.declared.Due.{Due}
-use Rattle.utf8_due.specs.declared.Due.the-variants.{First, More, Wrong}
-use Rattle.utf8_due.specs.Table.{afterFirst, next, isWhole}
+use Rattle.utf8.specs.declared.Due.{Due}
+use Rattle.utf8.specs.declared.Due.the-variants.{First, More, Wrong}
+use Rattle.utf8.specs.Table.{afterFirst, next, isWhole}
 use Rattle.utf8.specs.Utf8.{run, isUtf8, isScalar, tail, charOf, Characters, none, one}
 use Rattle.lent.proofs.Computed.{is-true, and-left, and-right, from, to}
-use Rattle.utf8_due.proofs.Table.{lead, isSound, isLed, sound-first, led-first}
+use Rattle.utf8.proofs.Table.{lead, isSound, isLed, sound-first, led-first}
 use Rattle.utf8.proofs.Run.{never-whole, taken, continues}
 use Rattle.utf8.proofs.Laws.{empty, joined}
 use Rattle.utf8.proofs.Codes.{above, tails, spelled, low-scalar, Tailed, tailed, low, high, fair}

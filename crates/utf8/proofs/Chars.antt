@@ -7,12 +7,12 @@ use native.Mathlib.Omega.{arith}
 use borrow.Author.Tests.{le-ltb, eq-eqb}
 use lib.Dec.{T}
 use Rattle.lent.specs.Bytes.{between}
-use Rattle.utf8_due.specs.declared.Due.{Due}
-use Rattle.utf8_due.specs.declared.Due.the-variants.{First, More}
-use Rattle.utf8_due.specs.Table.{afterFirst, afterMore, next}
+use Rattle.utf8.specs.declared.Due.{Due}
+use Rattle.utf8.specs.declared.Due.the-variants.{First, More}
+use Rattle.utf8.specs.Table.{afterFirst, afterMore, next}
 use Rattle.utf8.specs.Utf8.{run, isUtf8, isScalar, tail, charOf, replacement}
 use Rattle.lent.proofs.Computed.{is-true, within, allBelow, computed, agree}
-use Rattle.utf8_due.proofs.Table.{ascii-due, lead, sameDue, same-due}
+use Rattle.utf8.proofs.Table.{ascii-due, lead, sameDue, same-due}
 use Rattle.utf8.proofs.Laws.{of-first}
 use Rattle.utf8.proofs.Codes.{above, tails, spelled, shifted, above-shifted, hasTails, Tailed, low, high, counted, same-head, head-low}
 

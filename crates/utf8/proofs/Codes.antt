@@ -13,7 +13,7 @@ use lib.ListN.{getD}
 use Rattle.lent.specs.Bytes.{between}
 use Rattle.utf8.specs.Utf8.{isScalar, tail, charOf}
 use Rattle.lent.proofs.Computed.{and-left, and-right, within, from, to}
-use Rattle.utf8_due.proofs.Table.{lead}
+use Rattle.utf8.proofs.Table.{lead}
 
 -- the least code with n tails: the table of section 3
 abbrev pub least : ℕ → ℕ

@@ -13,12 +13,12 @@ use lib.Dec.{T, ltb→lt, leb·suc-suc}
 use lib.ListN.{length, take, drop, getD, take-append-drop}
 use lib.Seq.{take-add, take-suc}
 use Rattle.lent.specs.Bytes.{all, each}
-use Rattle.utf8_due.specs.declared.Due.{Due}
-use Rattle.utf8_due.specs.declared.Due.the-variants.{First, More, Wrong}
-use Rattle.utf8_due.specs.Table.{next, isWhole}
+use Rattle.utf8.specs.declared.Due.{Due}
+use Rattle.utf8.specs.declared.Due.the-variants.{First, More, Wrong}
+use Rattle.utf8.specs.Table.{next, isWhole}
 use Rattle.utf8.specs.Utf8.{run, isUtf8, isAscii, isContinuation, inside}
 use Rattle.lent.proofs.Computed.{and-left, and-right, to}
-use Rattle.utf8_due.proofs.Table.{ascii-due, high-wrong, isSound}
+use Rattle.utf8.proofs.Table.{ascii-due, high-wrong, isSound}
 use Rattle.utf8.proofs.Run.{never-whole, whole, sound-next, sound-run, continues, due-first, no-continuation}
 pub use Rattle.utf8.proofs.Run.{run-append, run-wrong}
 

@@ -6,12 +6,12 @@ use Prim.Native.Nat.{ℕ, _-_}
 use native.Mathlib.Omega.{arith}
 use lib.Dec.{T, leb, ltb, leb→le}
 use Rattle.lent.specs.Bytes.{if_then_else_, between}
-use Rattle.utf8_due.specs.declared.Due.{Due}
-use Rattle.utf8_due.specs.declared.Due.the-variants.{First, More, Wrong}
-use Rattle.utf8_due.specs.Table.{afterFirst, afterMore, next, isWhole}
+use Rattle.utf8.specs.declared.Due.{Due}
+use Rattle.utf8.specs.declared.Due.the-variants.{First, More, Wrong}
+use Rattle.utf8.specs.Table.{afterFirst, afterMore, next, isWhole}
 use Rattle.utf8.specs.Utf8.{run, isContinuation}
 use Rattle.lent.proofs.Computed.{and-left, and-right, within, from, to}
-use Rattle.utf8_due.proofs.Table.{isSound, sound-first, low-wrong}
+use Rattle.utf8.proofs.Table.{isSound, sound-first, low-wrong}
 
 pub continuation-wrong : (b : ℕ) → T (isContinuation b) → Wrong ≡ afterFirst b
 continuation-wrong b t =

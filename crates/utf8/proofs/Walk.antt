@@ -11,12 +11,12 @@ use lib.Bits.{bitOr, or-add-and, and-le-l, and-le-r}
 use lib.Dec.{ltb, leb}
 use lib.ListN.{length, take, drop, getD, length-drop, drop-of-length-le}
 use lib.Seq.{drop-cons, drop-drop}
-use Rattle.utf8_due.specs.declared.Due.{Due}
-use Rattle.utf8_due.specs.declared.Due.the-variants.{First, Wrong}
-use Rattle.utf8_due.specs.Table.{next, isWhole}
+use Rattle.utf8.specs.declared.Due.{Due}
+use Rattle.utf8.specs.declared.Due.the-variants.{First, Wrong}
+use Rattle.utf8.specs.Table.{next, isWhole}
 use Rattle.utf8.specs.Utf8.{run, isUtf8, inside}
 use Rattle.utf8.specs.Private.{asciiRun, bitsOf}
-use Rattle.utf8_due.proofs.Table.{ascii-due}
+use Rattle.utf8.proofs.Table.{ascii-due}
 use Rattle.utf8.proofs.Run.{run-wrong}
 
 -- ---- the bits of a block

@@ -5,10 +5,10 @@ use Prim.Native.Nat.{ℕ, _+_, _/_, _%_}
 use lib.Dec.{T, ltb}
 use lib.ListN.{length, getD}
 use Rattle.lent.specs.Bytes.{if_then_else_, between}
-use Rattle.utf8_due.specs.declared.Due.{Due}
-use Rattle.utf8_due.specs.declared.Due.the-variants.{First}
-pub use Rattle.utf8_due.specs.Table.{next, isWhole}
-unfoldable pub use Rattle.utf8_due.specs.Table.{afterFirst, lengthOf}
+use Rattle.utf8.specs.declared.Due.{Due}
+use Rattle.utf8.specs.declared.Due.the-variants.{First}
+pub use Rattle.utf8.specs.Table.{next, isWhole}
+unfoldable pub use Rattle.utf8.specs.Table.{afterFirst, lengthOf}
 
 -- ---- a text, byte by byte
 

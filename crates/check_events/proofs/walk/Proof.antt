@@ -1,7 +1,7 @@
 -- The loop's invariant: what is left says what the whole says, of nesting too. Assumes nothing.
 use Prim.Native.Nat.{_-_}
 use native.Mathlib.Omega.{arith}
-use Rattle.nesting.proofs.Laws.{Inv, at-first}
+use Rattle.check_nesting.proofs.Laws.{Inv, at-first}
 use Rattle.check_events.proofs.Walked.{Walked, walked-none, walked-field, walked-enter, walked-heading, walked-mark, walked-exit, walked-slice, walked-all}
 use Rattle.check_events.proofs.Nested.{nest-stops, nest-goes}
 use borrow.Author.Needs.{needs}

@@ -4,7 +4,7 @@ use Rattle.on_cell.proofs.on_exit_gfm_table_row.Statement.{statement}
 use Rattle.on_cell.proofs.on_exit_gfm_table_row.Tie as tie
 use native.Mathlib.Omega.{arith}
 use Rattle.machine.specs.OnTable.{onExitGfmTableRow}
-use Rattle.context.proofs.Commands.{sets, seq, puts}
+use Rattle.state_context.proofs.Commands.{sets, seq, puts}
 
 push-missing-cells-requires : tie.Need-push-missing-cells-requires
 push-missing-cells-requires c κs = search needs

@@ -1,7 +1,7 @@
 -- The cell, where it is not past the columns.
 use borrow.Author.Needs.{needs}
 use native.Mathlib.Omega.{arith}
-use Rattle.context.proofs.Commands.{seq}
+use Rattle.state_context.proofs.Commands.{seq}
 use Rattle.on_cell.proofs.Cells.{adds}
 use Rattle.on_cell.proofs.push_phantom_cell.Statement.{statement}
 use Rattle.on_cell.proofs.push_phantom_cell.Tie as tie

@@ -3,7 +3,7 @@ use borrow.Author.Needs.{needs}
 use Rattle.on_flow.proofs.end_open_code.Statement.{statement}
 use Rattle.on_flow.proofs.end_open_code.Tie as tie
 use native.Mathlib.Omega.{arith}
-use Rattle.context.proofs.Commands.{any, idle, sets, seq, puts, whether-yes, whether-no, met, unmet, told, tells-fence}
+use Rattle.state_context.proofs.Commands.{any, idle, sets, seq, puts, whether-yes, whether-no, met, unmet, told, tells-fence}
 
 is-fenced-once-requires : tie.Need-is-fenced-once-requires
 is-fenced-once-requires c κs = search needs

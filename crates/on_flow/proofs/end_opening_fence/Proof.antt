@@ -3,7 +3,7 @@ use borrow.Author.Needs.{needs}
 use Rattle.on_flow.proofs.end_opening_fence.Statement.{statement}
 use Rattle.on_flow.proofs.end_opening_fence.Tie as tie
 use native.Mathlib.Omega.{arith}
-use Rattle.context.proofs.Commands.{any, idle, sets, seq, puts, whether-yes, whether-no, met, unmet, told, tells-fence}
+use Rattle.state_context.proofs.Commands.{any, idle, sets, seq, puts, whether-yes, whether-no, met, unmet, told, tells-fence}
 
 is-first-fence-requires : tie.Need-is-first-fence-requires
 is-first-fence-requires c κs = search needs

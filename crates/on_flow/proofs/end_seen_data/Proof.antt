@@ -3,7 +3,7 @@ use borrow.Author.Needs.{needs}
 use Rattle.on_flow.proofs.end_seen_data.Statement.{statement}
 use Rattle.on_flow.proofs.end_seen_data.Tie as tie
 use native.Mathlib.Omega.{arith}
-use Rattle.context.proofs.Commands.{any, idle, sets, seq, puts, whether-yes, whether-no, met, unmet, told, tells-fence}
+use Rattle.state_context.proofs.Commands.{any, idle, sets, seq, puts, whether-yes, whether-no, met, unmet, told, tells-fence}
 
 has-seen-data-requires : tie.Need-has-seen-data-requires
 has-seen-data-requires c κs = search needs

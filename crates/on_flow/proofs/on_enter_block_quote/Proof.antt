@@ -3,7 +3,7 @@ use borrow.Author.Needs.{needs}
 use Rattle.on_flow.proofs.on_enter_block_quote.Statement.{statement}
 use Rattle.on_flow.proofs.on_enter_block_quote.Tie as tie
 use Rattle.machine.specs.OnFlow.{onEnterBlockQuote}
-use Rattle.context.proofs.Commands.{any, idle, sets, seq, puts, whether-yes, whether-no}
+use Rattle.state_context.proofs.Commands.{any, idle, sets, seq, puts, whether-yes, whether-no}
 
 tighten-requires : tie.Need-tighten-requires
 tighten-requires c κs = search needs

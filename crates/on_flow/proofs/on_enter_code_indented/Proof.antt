@@ -3,7 +3,7 @@ use borrow.Author.Needs.{needs}
 use Rattle.on_flow.proofs.on_enter_code_indented.Statement.{statement}
 use Rattle.on_flow.proofs.on_enter_code_indented.Tie as tie
 use Rattle.machine.specs.OnFlow.{onEnterCodeIndented}
-use Rattle.context.proofs.Commands.{any, idle, sets, seq, puts, whether-yes, whether-no}
+use Rattle.state_context.proofs.Commands.{any, idle, sets, seq, puts, whether-yes, whether-no}
 
 set-seen-requires : tie.Need-set-seen-requires
 set-seen-requires c κs = search needs

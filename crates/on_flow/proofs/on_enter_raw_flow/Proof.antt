@@ -4,7 +4,7 @@ use Rattle.on_flow.proofs.on_enter_raw_flow.Statement.{statement}
 use Rattle.on_flow.proofs.on_enter_raw_flow.Tie as tie
 use native.Mathlib.Omega.{arith}
 use Rattle.machine.specs.OnFlow.{onEnterRawFlow}
-use Rattle.context.proofs.Commands.{any, idle, sets, seq, puts, whether-yes, whether-no, met, unmet, told, tells-fence}
+use Rattle.state_context.proofs.Commands.{any, idle, sets, seq, puts, whether-yes, whether-no, met, unmet, told, tells-fence}
 
 set-seen-requires : tie.Need-set-seen-requires
 set-seen-requires c κs = search needs

@@ -3,7 +3,7 @@ use borrow.Author.Needs.{needs}
 use Rattle.on_flow.proofs.on_exit_block_quote.Statement.{statement}
 use Rattle.on_flow.proofs.on_exit_block_quote.Tie as tie
 use Rattle.machine.specs.OnFlow.{onExitBlockQuote}
-use Rattle.context.proofs.Commands.{any, idle, sets, seq, puts, whether-yes, whether-no}
+use Rattle.state_context.proofs.Commands.{any, idle, sets, seq, puts, whether-yes, whether-no}
 
 loosen-requires : tie.Need-loosen-requires
 loosen-requires c κs = search needs

@@ -4,7 +4,7 @@ use Rattle.on_flow.proofs.on_exit_raw_flow.Statement.{statement}
 use Rattle.on_flow.proofs.on_exit_raw_flow.Tie as tie
 use native.Mathlib.Omega.{arith}
 use Rattle.machine.specs.OnFlow.{onExitRawFlow}
-use Rattle.context.proofs.Commands.{any, idle, sets, seq, puts, whether-yes, whether-no, met, unmet, told, tells-fence}
+use Rattle.state_context.proofs.Commands.{any, idle, sets, seq, puts, whether-yes, whether-no, met, unmet, told, tells-fence}
 
 end-open-code-requires : tie.Need-end-open-code-requires
 end-open-code-requires c κs = search needs

@@ -4,7 +4,7 @@ use Rattle.on_flow.proofs.on_exit_raw_flow_fence.Statement.{statement}
 use Rattle.on_flow.proofs.on_exit_raw_flow_fence.Tie as tie
 use native.Mathlib.Omega.{arith}
 use Rattle.machine.specs.OnFlow.{onExitRawFlowFence}
-use Rattle.context.proofs.Commands.{any, idle, sets, seq, puts, whether-yes, whether-no, met, unmet, told, tells-fence}
+use Rattle.state_context.proofs.Commands.{any, idle, sets, seq, puts, whether-yes, whether-no, met, unmet, told, tells-fence}
 
 end-opening-fence-requires : tie.Need-end-opening-fence-requires
 end-opening-fence-requires c κs = search needs

@@ -3,7 +3,7 @@ use borrow.Author.Needs.{needs}
 use Rattle.on_flow.proofs.on_exit_raw_flow_fence_info.Statement.{statement}
 use Rattle.on_flow.proofs.on_exit_raw_flow_fence_info.Tie as tie
 use Rattle.machine.specs.OnFlow.{onExitRawFlowFenceInfo}
-use Rattle.context.proofs.Slices.{resumes}
+use Rattle.state_context.proofs.Slices.{resumes}
 
 slice-aggregate-resume : tie.Need-slice-aggregate-resume
 slice-aggregate-resume c = search needs

@@ -3,7 +3,7 @@ use borrow.Author.Needs.{needs}
 use Rattle.on_flow.proofs.on_exit_thematic_break.Statement.{statement}
 use Rattle.on_flow.proofs.on_exit_thematic_break.Tie as tie
 use Rattle.machine.specs.OnFlow.{onExitThematicBreak}
-use Rattle.context.proofs.Commands.{any, idle, sets, seq, puts, whether-yes, whether-no}
+use Rattle.state_context.proofs.Commands.{any, idle, sets, seq, puts, whether-yes, whether-no}
 
 line-ending-if-needed-requires : tie.Need-line-ending-if-needed-requires
 line-ending-if-needed-requires c κs = search needs

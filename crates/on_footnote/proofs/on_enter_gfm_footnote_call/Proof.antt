@@ -1,6 +1,6 @@
 -- A medium is opened. Assumes nothing.
 use Rattle.machine.specs.OnFootnote.{onEnterGfmFootnoteCall}
-use Rattle.whole.proofs.Media.{opens-media}
+use Rattle.state_whole.proofs.Media.{opens-media}
 use borrow.Author.Needs.{needs}
 use Rattle.on_footnote.proofs.on_enter_gfm_footnote_call.Statement.{statement}
 use Rattle.on_footnote.proofs.on_enter_gfm_footnote_call.Tie as tie

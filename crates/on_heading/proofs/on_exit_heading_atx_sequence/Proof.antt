@@ -4,7 +4,7 @@ use Rattle.on_heading.proofs.on_exit_heading_atx_sequence.Statement.{st
 use Rattle.on_heading.proofs.on_exit_heading_atx_sequence.Tie as tie
 use native.Mathlib.Omega.{arith}
 use Rattle.machine.specs.OnFlow.{onExitHeadingAtxSequence}
-use Rattle.context.proofs.Commands.{any, idle, seq, puts, told, whether-yes, whether-no}
+use Rattle.state_context.proofs.Commands.{any, idle, seq, puts, told, whether-yes, whether-no}
 
 has-rank-requires : tie.Need-has-rank-requires
 has-rank-requires c κs = search needs

@@ -3,7 +3,7 @@ use borrow.Author.Needs.{needs}
 use Rattle.on_heading.proofs.on_exit_raw_flow_chunk.Statement.{statement}
 use Rattle.on_heading.proofs.on_exit_raw_flow_chunk.Tie as tie
 use Rattle.machine.specs.OnFlow.{onExitRawFlowChunk}
-use Rattle.context.proofs.Commands.{seq, sets}
+use Rattle.state_context.proofs.Commands.{seq, sets}
 
 set-seen-requires : tie.Need-set-seen-requires
 set-seen-requires c κs = search needs

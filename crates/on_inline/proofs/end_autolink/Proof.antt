@@ -2,7 +2,7 @@
 use borrow.Author.Needs.{needs}
 use Rattle.on_inline.proofs.end_autolink.Statement.{statement}
 use Rattle.on_inline.proofs.end_autolink.Tie as tie
-use Rattle.context.proofs.Commands.{seq, tag-of}
+use Rattle.state_context.proofs.Commands.{seq, tag-of}
 
 push-slice-requires : tie.Need-push-slice-requires
 push-slice-requires c κs = search needs

@@ -3,8 +3,8 @@ use borrow.Author.Needs.{needs}
 use Rattle.on_inline.proofs.on_exit_raw_text.Statement.{statement}
 use Rattle.on_inline.proofs.on_exit_raw_text.Tie as tie
 use Rattle.machine.specs.OnText.{onExitRawText}
-use Rattle.context.proofs.Commands.{seq, sets, tag-of}
-use Rattle.context.proofs.Slices.{takes-seq}
+use Rattle.state_context.proofs.Commands.{seq, sets, tag-of}
+use Rattle.state_context.proofs.Slices.{takes-seq}
 
 resume-code-requires : tie.Need-resume-code-requires
 resume-code-requires c κs = search needs

@@ -5,7 +5,7 @@ use Rattle.on_link.proofs.on_enter_definition.Tie as tie
 use mathlib.Core.Path.{refl}
 use native.Mathlib.Omega.{arith}
 use Rattle.machine.specs.OnMedia.{onEnterDefinition}
-use Rattle.whole.proofs.Media.{opens-media}
+use Rattle.state_whole.proofs.Media.{opens-media}
 use Rattle.on_link.proofs.Lifted.{lifts-begins}
 use Rattle.on_link.proofs.Chains.{then-on-starts}
 

@@ -4,7 +4,7 @@ use Rattle.on_link.proofs.on_exit_label.Statement.{statement}
 use Rattle.on_link.proofs.on_exit_label.Tie as tie
 use native.Mathlib.Omega.{arith}
 use Rattle.machine.specs.OnMedia.{onExitLabel}
-use Rattle.whole.proofs.Media.{stores}
+use Rattle.state_whole.proofs.Media.{stores}
 
 captured-length-requires : tie.Need-captured-length-requires
 captured-length-requires c κs = search needs

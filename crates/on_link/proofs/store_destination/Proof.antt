@@ -4,7 +4,7 @@ use Rattle.on_link.proofs.store_destination.Statement.{statement}
 use Rattle.on_link.proofs.store_destination.Tie as tie
 use mathlib.Core.Path.{refl}
 use native.Mathlib.Omega.{arith}
-use Rattle.whole.proofs.Media.{stores}
+use Rattle.state_whole.proofs.Media.{stores}
 use Rattle.on_link.proofs.Lifted.{lifts-sets}
 use Rattle.on_link.proofs.Chains.{then-on-work}
 

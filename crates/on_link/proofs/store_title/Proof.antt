@@ -3,7 +3,7 @@ use borrow.Author.Needs.{needs}
 use Rattle.on_link.proofs.store_title.Statement.{statement}
 use Rattle.on_link.proofs.store_title.Tie as tie
 use native.Mathlib.Omega.{arith}
-use Rattle.whole.proofs.Media.{stores}
+use Rattle.state_whole.proofs.Media.{stores}
 
 captured-length-requires : tie.Need-captured-length-requires
 captured-length-requires c κs = search needs

@@ -3,7 +3,7 @@ use borrow.Author.Needs.{needs}
 use Rattle.on_list.proofs.end_line.Statement.{statement}
 use Rattle.on_list.proofs.end_line.Tie as tie
 use borrow.Author.Tests.{eq-eqb, ne-eqb}
-use Rattle.context.proofs.Commands.{any, idle, whether-yes, whether-no}
+use Rattle.state_context.proofs.Commands.{any, idle, whether-yes, whether-no}
 use Rattle.on_list.proofs.Laws.{tells-empty}
 
 is-tight-paragraph-requires : tie.Need-is-tight-paragraph-requires

@@ -2,7 +2,7 @@
 use borrow.Author.Needs.{needs}
 use Rattle.on_list.proofs.end_tag.Statement.{statement}
 use Rattle.on_list.proofs.end_tag.Tie as tie
-use Rattle.context.proofs.Commands.{idle, puts, whether-yes, whether-no}
+use Rattle.state_context.proofs.Commands.{idle, puts, whether-yes, whether-no}
 
 is-first-marker-requires : tie.Need-is-first-marker-requires
 is-first-marker-requires c κs = search needs

@@ -4,7 +4,7 @@ use Rattle.on_list.proofs.on_enter_list.Statement.{statement}
 use Rattle.on_list.proofs.on_enter_list.Tie as tie
 use native.Mathlib.Omega.{arith}
 use Rattle.machine.specs.OnList.{onEnterList}
-use Rattle.context.proofs.Commands.{any, narrow, seq, sets}
+use Rattle.state_context.proofs.Commands.{any, narrow, seq, sets}
 use Rattle.on_list.proofs.Laws.{tightens, by-order}
 
 tighten-requires : tie.Need-tighten-requires

@@ -4,7 +4,7 @@ use Rattle.on_list.proofs.on_enter_list_item_marker.Statement.{statemen
 use Rattle.on_list.proofs.on_enter_list_item_marker.Tie as tie
 use native.Mathlib.Omega.{arith}
 use Rattle.machine.specs.OnList.{onEnterListItemMarker}
-use Rattle.context.proofs.Commands.{seq, sets, puts}
+use Rattle.state_context.proofs.Commands.{seq, sets, puts}
 
 end-tag-requires : tie.Need-end-tag-requires
 end-tag-requires c κs = search needs

@@ -3,7 +3,7 @@ use borrow.Author.Needs.{needs}
 use Rattle.on_list.proofs.on_exit_list_item.Statement.{statement}
 use Rattle.on_list.proofs.on_exit_list_item.Tie as tie
 use Rattle.machine.specs.OnList.{onExitListItem}
-use Rattle.context.proofs.Commands.{seq, sets, puts}
+use Rattle.state_context.proofs.Commands.{seq, sets, puts}
 
 set-slurp-requires : tie.Need-set-slurp-requires
 set-slurp-requires c κs = search needs

@@ -3,7 +3,7 @@ use borrow.Author.Needs.{needs}
 use Rattle.on_list.proofs.on_exit_list_item_value.Statement.{statement}
 use Rattle.on_list.proofs.on_exit_list_item_value.Tie as tie
 use Rattle.machine.specs.OnList.{onExitListItemValue}
-use Rattle.context.proofs.Commands.{idle, told, whether-yes, whether-no}
+use Rattle.state_context.proofs.Commands.{idle, told, whether-yes, whether-no}
 
 is-first-marker-requires : tie.Need-is-first-marker-requires
 is-first-marker-requires c κs = search needs

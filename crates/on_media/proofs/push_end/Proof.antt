@@ -6,10 +6,10 @@ use native.Mathlib.Omega.{arith}
 use Rattle.on_media.proofs.Tests.{alt-known, shown-no, shown-skipped}
 use mathlib.Core.Path.{refl}
 use Rattle.on_media.proofs.Chains.{then-shown, page-shown}
-use Rattle.show.proofs.Steady.{quiet-steady}
-use Rattle.media_parts.proofs.Writes.{puts-page}
-use Rattle.context.specs.Rel.{Any}
-use Rattle.whole.specs.Whole.{Always}
+use Rattle.write_held.proofs.Steady.{quiet-steady}
+use Rattle.on_media.proofs.Writes.{puts-page}
+use Rattle.state_context.specs.Rel.{Any}
+use Rattle.state_whole.specs.Whole.{Always}
 use Rattle.machine.specs.Test.{isImage}
 use Rattle.machine.specs.Media.{title}
 use Rattle.machine.specs.Words.{when, put, show}

@@ -6,7 +6,7 @@ use native.Mathlib.Omega.{arith}
 use Rattle.on_media.proofs.Tests.{alt-known, shown-no, shown-skipped}
 use mathlib.Core.Path.{refl}
 use Rattle.on_media.proofs.Chains.{then-shown, page-shown}
-use Rattle.show.proofs.Steady.{quiet-steady}
+use Rattle.write_held.proofs.Steady.{quiet-steady}
 use Rattle.machine.specs.Test.{isImage}
 use Rattle.machine.specs.Media.{destination}
 use Rattle.machine.specs.Command.{whether}

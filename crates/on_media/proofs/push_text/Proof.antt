@@ -3,7 +3,7 @@ use borrow.Author.Needs.{needs}
 use Rattle.on_media.proofs.push_text.Statement.{statement}
 use Rattle.on_media.proofs.push_text.Tie as tie
 use Rattle.on_media.proofs.Tests.{image-known, page-yes, page-no, page-idle}
-use Rattle.show.proofs.Pages.{then-on-page}
+use Rattle.write_held.proofs.Pages.{then-on-page}
 
 is-image-requires : tie.Need-is-image-requires
 is-image-requires c κs = search needs

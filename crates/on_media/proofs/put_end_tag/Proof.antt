@@ -3,7 +3,7 @@ use borrow.Author.Needs.{needs}
 use Rattle.on_media.proofs.put_end_tag.Statement.{statement}
 use Rattle.on_media.proofs.put_end_tag.Tie as tie
 use Rattle.on_media.proofs.Tests.{alt-known, page-yes, page-no, page-idle}
-use Rattle.media_parts.proofs.Writes.{puts-page}
+use Rattle.on_media.proofs.Writes.{puts-page}
 
 is-alt-requires : tie.Need-is-alt-requires
 is-alt-requires c κs = search needs

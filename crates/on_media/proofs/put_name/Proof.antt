@@ -3,7 +3,7 @@ use borrow.Author.Needs.{needs}
 use Rattle.on_media.proofs.put_name.Statement.{statement}
 use Rattle.on_media.proofs.put_name.Tie as tie
 use Rattle.on_media.proofs.Tests.{image-known, page-yes, page-no}
-use Rattle.media_parts.proofs.Writes.{puts-page}
+use Rattle.on_media.proofs.Writes.{puts-page}
 
 is-image-requires : tie.Need-is-image-requires
 is-image-requires c κs = search needs

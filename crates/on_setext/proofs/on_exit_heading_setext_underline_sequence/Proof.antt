@@ -4,8 +4,8 @@ use Rattle.on_setext.proofs.on_exit_heading_setext_underline_sequence.S
 use Rattle.on_setext.proofs.on_exit_heading_setext_underline_sequence.Tie as tie
 use mathlib.Core.Path.{refl}
 use native.Mathlib.Omega.{arith}
-use Rattle.show.proofs.Steady.{quiet-steady, then-steady-page}
-use Rattle.show.proofs.Pages.{then-on-page, narrow-page, needs-page, same-within, regroup-four}
+use Rattle.write_held.proofs.Steady.{quiet-steady, then-steady-page}
+use Rattle.write_held.proofs.Pages.{then-on-page, narrow-page, needs-page, same-within, regroup-four}
 use Rattle.on_setext.proofs.Dashes.{underlined}
 use Rattle.machine.specs.OnFlow.{setextRank, onExitHeadingSetextUnderlineSequence}
 use Rattle.machine.specs.Command.{_▸_}

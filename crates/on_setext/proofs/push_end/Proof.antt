@@ -3,7 +3,7 @@ use borrow.Author.Needs.{needs}
 use Rattle.on_setext.proofs.push_end.Statement.{statement}
 use Rattle.on_setext.proofs.push_end.Tie as tie
 use native.Mathlib.Omega.{arith}
-use Rattle.context.proofs.Commands.{seq, puts}
+use Rattle.state_context.proofs.Commands.{seq, puts}
 
 slice-aggregate-push : tie.Need-slice-aggregate-push
 slice-aggregate-push c = search needs

@@ -2,7 +2,7 @@
 use borrow.Author.Needs.{needs}
 use Rattle.on_setext.proofs.push_rank.Statement.{statement}
 use Rattle.on_setext.proofs.push_rank.Tie as tie
-use Rattle.context.proofs.Commands.{puts, whether-yes, whether-no}
+use Rattle.state_context.proofs.Commands.{puts, whether-yes, whether-no}
 use Rattle.on_setext.proofs.Dashes.{tells-dashes}
 use Rattle.machine.specs.OnFlow.{setextRank}
 

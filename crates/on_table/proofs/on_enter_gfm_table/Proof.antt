@@ -3,7 +3,7 @@ use borrow.Author.Needs.{needs}
 use Rattle.on_table.proofs.on_enter_gfm_table.Statement.{statement}
 use Rattle.on_table.proofs.on_enter_gfm_table.Tie as tie
 use Rattle.machine.specs.OnTable.{onEnterGfmTable}
-use Rattle.context.proofs.Commands.{any, seq, puts}
+use Rattle.state_context.proofs.Commands.{any, seq, puts}
 
 open-table-requires : tie.Need-open-table-requires
 open-table-requires c κs = search needs

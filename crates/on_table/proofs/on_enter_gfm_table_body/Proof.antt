@@ -3,7 +3,7 @@ use borrow.Author.Needs.{needs}
 use Rattle.on_table.proofs.on_enter_gfm_table_body.Statement.{statement}
 use Rattle.on_table.proofs.on_enter_gfm_table_body.Tie as tie
 use Rattle.machine.specs.OnTable.{onEnterGfmTableBody}
-use Rattle.context.proofs.Commands.{puts}
+use Rattle.state_context.proofs.Commands.{puts}
 
 slice-aggregate-push : tie.Need-slice-aggregate-push
 slice-aggregate-push c = search needs

@@ -4,7 +4,7 @@ use Rattle.on_table.proofs.on_enter_gfm_table_head.Statement.{statement
 use Rattle.on_table.proofs.on_enter_gfm_table_head.Tie as tie
 use native.Mathlib.Omega.{arith}
 use Rattle.machine.specs.OnTable.{onEnterGfmTableHead}
-use Rattle.context.proofs.Commands.{sets, seq, puts}
+use Rattle.state_context.proofs.Commands.{sets, seq, puts}
 
 line-ending-if-needed-requires : tie.Need-line-ending-if-needed-requires
 line-ending-if-needed-requires c κs = search needs

@@ -3,7 +3,7 @@ use borrow.Author.Needs.{needs}
 use Rattle.on_table.proofs.on_exit_gfm_table.Statement.{statement}
 use Rattle.on_table.proofs.on_exit_gfm_table.Tie as tie
 use Rattle.machine.specs.OnTable.{onExitGfmTable}
-use Rattle.context.proofs.Commands.{sets, seq, puts}
+use Rattle.state_context.proofs.Commands.{sets, seq, puts}
 
 close-table-requires : tie.Need-close-table-requires
 close-table-requires c κs = search needs

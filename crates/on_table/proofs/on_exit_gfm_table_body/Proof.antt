@@ -3,7 +3,7 @@ use borrow.Author.Needs.{needs}
 use Rattle.on_table.proofs.on_exit_gfm_table_body.Statement.{statement}
 use Rattle.on_table.proofs.on_exit_gfm_table_body.Tie as tie
 use Rattle.machine.specs.OnTable.{onExitGfmTableBody}
-use Rattle.context.proofs.Commands.{seq, puts}
+use Rattle.state_context.proofs.Commands.{seq, puts}
 
 line-ending-if-needed-requires : tie.Need-line-ending-if-needed-requires
 line-ending-if-needed-requires c κs = search needs

@@ -3,7 +3,7 @@ use borrow.Author.Needs.{needs}
 use Rattle.on_table.proofs.on_exit_gfm_table_head.Statement.{statement}
 use Rattle.on_table.proofs.on_exit_gfm_table_head.Tie as tie
 use Rattle.machine.specs.OnTable.{onExitGfmTableHead}
-use Rattle.context.proofs.Commands.{sets, seq, puts}
+use Rattle.state_context.proofs.Commands.{sets, seq, puts}
 
 set-head-requires : tie.Need-set-head-requires
 set-head-requires c κs = search needs

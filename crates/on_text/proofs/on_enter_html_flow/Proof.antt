@@ -4,7 +4,7 @@ use Rattle.on_text.proofs.on_enter_html_flow.Statement.{statement}
 use Rattle.on_text.proofs.on_enter_html_flow.Tie as tie
 use Rattle.machine.specs.OnText.{onEnterHtmlFlow}
 use Rattle.machine.specs.OnText.{onEnterHtmlText}
-use Rattle.context.proofs.Commands.{any, sets, seq}
+use Rattle.state_context.proofs.Commands.{any, sets, seq}
 
 line-ending-if-needed-requires : tie.Need-line-ending-if-needed-requires
 line-ending-if-needed-requires c κs = search needs

@@ -3,7 +3,7 @@ use borrow.Author.Needs.{needs}
 use Rattle.on_text.proofs.on_enter_html_text.Statement.{statement}
 use Rattle.on_text.proofs.on_enter_html_text.Tie as tie
 use Rattle.machine.specs.OnText.{onEnterHtmlText}
-use Rattle.context.proofs.Commands.{idle, sets, whether-yes, whether-no, tells-html}
+use Rattle.state_context.proofs.Commands.{idle, sets, whether-yes, whether-no, tells-html}
 
 set-encode-requires : tie.Need-set-encode-requires
 set-encode-requires c κs = search needs

@@ -3,7 +3,7 @@ use borrow.Author.Needs.{needs}
 use Rattle.on_text.proofs.on_enter_raw_text.Statement.{statement}
 use Rattle.on_text.proofs.on_enter_raw_text.Tie as tie
 use Rattle.machine.specs.OnText.{onEnterRawText}
-use Rattle.context.proofs.Commands.{tag-of, sets, begins, opens-last}
+use Rattle.state_context.proofs.Commands.{tag-of, sets, begins, opens-last}
 
 set-raw-requires : tie.Need-set-raw-requires
 set-raw-requires c κs = search needs

@@ -3,7 +3,7 @@ use borrow.Author.Needs.{needs}
 use Rattle.on_text.proofs.on_exit_blank_line_ending.Statement.{statement}
 use Rattle.on_text.proofs.on_exit_blank_line_ending.Tie as tie
 use Rattle.machine.specs.OnText.{onExitBlankLineEnding}
-use Rattle.context.proofs.Commands.{any, idle, sets, seq, whether-yes, whether-no, tells-last}
+use Rattle.state_context.proofs.Commands.{any, idle, sets, seq, whether-yes, whether-no, tells-last}
 
 set-slurp-requires : tie.Need-set-slurp-requires
 set-slurp-requires c κs = search needs

@@ -3,7 +3,7 @@ use borrow.Author.Needs.{needs}
 use Rattle.on_text.proofs.on_exit_line_ending.Statement.{statement}
 use Rattle.on_text.proofs.on_exit_line_ending.Tie as tie
 use Rattle.machine.specs.OnText.{onExitLineEnding}
-use Rattle.context.proofs.Commands.{sets, puts, narrow, told, whether-yes, whether-no, tells-behind}
+use Rattle.state_context.proofs.Commands.{sets, puts, narrow, told, whether-yes, whether-no, tells-behind}
 
 is-raw-requires : tie.Need-is-raw-requires
 is-raw-requires c κs = search needs

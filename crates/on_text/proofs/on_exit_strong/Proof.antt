@@ -3,7 +3,7 @@ use borrow.Author.Needs.{needs}
 use Rattle.on_text.proofs.on_exit_strong.Statement.{statement}
 use Rattle.on_text.proofs.on_exit_strong.Tie as tie
 use Rattle.machine.specs.OnText.{onExitStrong}
-use Rattle.context.proofs.Commands.{tag-of}
+use Rattle.state_context.proofs.Commands.{tag-of}
 
 slice-aggregate-push-tag : tie.Need-slice-aggregate-push-tag
 slice-aggregate-push-tag c = search needs

@@ -2,7 +2,7 @@
 use mathlib.Core.Path.{_≡_}
 use Prim.Native.Nat.{_-_}
 use lib.ListN.{length, drop}
-use Rattle.utf8_due.specs.Table.{isWhole}
+use Rattle.utf8.specs.Table.{isWhole}
 use Rattle.utf8.specs.Utf8.{run, isUtf8}
 use Rattle.utf8.proofs.Walk.{begun, on, wrong, skipped, ended}
 use borrow.Author.Needs.{needs}

@@ -1,0 +1,67 @@
+-- The loop's invariant: the first `lane` lanes are added. Assumes nothing.
+use mathlib.Core.Path.{_≡_}
+use Prim.Native.Nat.{_-_, _≤_}
+use lib.ListN.{take}
+use Rattle.bundle_block.specs.Lanes.{added}
+use Rattle.bundle_block.proofs.Lanes.{behind, lane-fits, lane-added, lanes-end}
+use borrow.Author.Needs.{needs}
+use Rattle.bundle_block.proofs.add_lanes.Statement.{statement}
+use Rattle.bundle_block.proofs.add_lanes.Tie as tie
+
+abbrev Inv-loop : tie.InvT-loop
+Inv-loop lanes₀ more lane₀ lanes lane = (lane ≤ 16) × (lanes ≡ added lanes₀ (take lane more))
+
+abbrev μ-loop : tie.MeasureT-loop
+μ-loop lanes₀ more lane₀ lanes lane = 16 - lane
+
+loop-holds : tie.Need-loop-holds Inv-loop μ-loop
+unfolding added
+loop-holds c = search needs
+
+mul-lanes : tie.Need-mul-lanes Inv-loop μ-loop
+mul-lanes c = search needs
+
+element-copy-out-lanes : tie.Need-element-copy-out-lanes Inv-loop μ-loop
+element-copy-out-lanes c = search needs
+
+mul-lanes-2 : tie.Need-mul-lanes-2 Inv-loop μ-loop
+mul-lanes-2 c = search needs
+
+element-copy-out-lanes-2 : tie.Need-element-copy-out-lanes-2 Inv-loop μ-loop
+element-copy-out-lanes-2 c = search needs
+
+add-lanes : tie.Need-add-lanes Inv-loop μ-loop
+add-lanes c = search lane-fits
+
+element-write-lanes : tie.Need-element-write-lanes Inv-loop μ-loop
+element-write-lanes c = search needs
+
+add-lane : tie.Need-add-lane Inv-loop μ-loop
+add-lane c = search needs
+
+loop-less : tie.Need-loop-less Inv-loop μ-loop
+loop-less c = search needs
+
+loop-again : tie.Need-loop-again Inv-loop μ-loop
+loop-again c = search (lane-added, needs)
+
+returns : tie.Need-returns Inv-loop μ-loop
+returns c = search (lanes-end, behind)
+
+pub add-lanes-spec : {M : Type 1} → statement M
+add-lanes-spec =
+    tie.close
+    (tie.spec
+    Inv-loop
+    μ-loop
+    loop-holds
+    mul-lanes
+    element-copy-out-lanes
+    mul-lanes-2
+    element-copy-out-lanes-2
+    add-lanes
+    element-write-lanes
+    add-lane
+    loop-less
+    loop-again
+    returns)

@@ -1,0 +1,40 @@
+-- The loop's invariant: with the bytes from `seen` on, the answer is that for all. Assumes nothing.
+use mathlib.Core.Bool.{_&&_}
+use mathlib.Core.Path.{_≡_}
+use Prim.Native.Nat.{_-_}
+use lib.ListN.{length, drop}
+use Rattle.lent.specs.Bytes.{all}
+use Rattle.bundle_block.specs.Block.{isZero}
+use Rattle.bundle_block.proofs.Block.{zero-more, zero-end}
+use borrow.Author.Needs.{needs}
+use Rattle.bundle_block.proofs.is_zero.Statement.{statement}
+use Rattle.bundle_block.proofs.is_zero.Tie as tie
+
+abbrev Inv-loop : tie.InvT-loop
+Inv-loop part zero₀ seen₀ zero seen = (zero && all isZero (drop seen part)) ≡ all isZero part
+
+abbrev μ-loop : tie.MeasureT-loop
+μ-loop part zero₀ seen₀ zero seen = length part - seen
+
+loop-holds : tie.Need-loop-holds Inv-loop μ-loop
+loop-holds c = search needs
+
+shared-slice-read-zero : tie.Need-shared-slice-read-zero Inv-loop μ-loop
+shared-slice-read-zero c = search needs
+
+add-seen : tie.Need-add-seen Inv-loop μ-loop
+add-seen c = search needs
+
+loop-less : tie.Need-loop-less Inv-loop μ-loop
+loop-less c = search needs
+
+loop-again : tie.Need-loop-again Inv-loop μ-loop
+loop-again c = search zero-more
+
+returns : tie.Need-returns Inv-loop μ-loop
+returns c = search zero-end
+
+pub is-zero-spec : {M : Type 1} → statement M
+is-zero-spec =
+    tie.close
+    (tie.spec Inv-loop μ-loop loop-holds shared-slice-read-zero add-seen loop-less loop-again returns)

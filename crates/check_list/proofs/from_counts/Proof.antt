@@ -1,0 +1,24 @@
+-- The first break is the answer, else what the later passes say.
+use borrow.Author.Needs.{needs}
+use Rattle.check_list.proofs.from_counts.Statement.{statement}
+use Rattle.check_list.proofs.from_counts.Tie as tie
+use Rattle.check_list.proofs.Order.{counts-pass, counts-fail}
+
+enum-told : tie.Need-enum-told
+enum-told c = search needs
+
+from-labels-requires : tie.Need-from-labels-requires
+from-labels-requires c κs = search needs
+
+enum-known-counts : tie.Need-enum-known-counts
+enum-known-counts c = search needs
+
+returns : tie.Need-returns
+returns c = search counts-pass
+
+returns-2 : tie.Need-returns-2
+returns-2 c = search counts-fail
+
+pub from-counts-spec : {M : Type 1} → statement M
+from-counts-spec =
+    tie.close (tie.spec enum-told from-labels-requires enum-known-counts returns returns-2)

@@ -1,0 +1,34 @@
+-- The first break is the answer, else what the later passes say.
+use borrow.Author.Needs.{needs}
+use Rattle.check_list.proofs.from_fields.Statement.{statement}
+use Rattle.check_list.proofs.from_fields.Tie as tie
+use Rattle.check_list.proofs.Order.{looked-field, looked-nested, looked-passes, looked-through}
+
+look-requires : tie.Need-look-requires
+look-requires c κs = search needs
+
+enum-known-i : tie.Need-enum-known-i
+enum-known-i c = search needs
+
+enum-known-i-2 : tie.Need-enum-known-i-2
+enum-known-i-2 c = search needs
+
+enum-known-p : tie.Need-enum-known-p
+enum-known-p c = search needs
+
+from-slices-requires : tie.Need-from-slices-requires
+from-slices-requires c κs = search looked-passes
+
+returns : tie.Need-returns
+returns c = search looked-field
+
+returns-2 : tie.Need-returns-2
+returns-2 c = search looked-nested
+
+returns-3 : tie.Need-returns-3
+returns-3 c = search looked-through
+
+pub from-fields-spec : {M : Type 1} → statement M
+from-fields-spec =
+    tie.close
+    (tie.spec look-requires enum-known-i enum-known-i-2 enum-known-p from-slices-requires returns returns-2 returns-3)

@@ -1,0 +1,46 @@
+-- None is open, the element stays, or it is left. Assumes nothing.
+use Rattle.check_nesting.proofs.Arrays.{none-to-close, newest-state, not-closed, is-closed}
+use borrow.Author.Needs.{needs}
+use Rattle.check_nesting.proofs.close.Statement.{statement}
+use Rattle.check_nesting.proofs.close.Tie as tie
+
+returns : tie.Need-returns
+returns c = search none-to-close
+
+sub-at : tie.Need-sub-at
+sub-at c = search needs
+
+shared-slice-read-leave : tie.Need-shared-slice-read-leave
+shared-slice-read-leave c = search needs
+
+shared-slice-read-leave-2 : tie.Need-shared-slice-read-leave-2
+shared-slice-read-leave-2 c = search needs
+
+leave-requires : tie.Need-leave-requires
+leave-requires c κs = search (newest-state, needs)
+
+enum-known-exit : tie.Need-enum-known-exit
+enum-known-exit c = search needs
+
+enum-told : tie.Need-enum-told
+enum-told c = search needs
+
+returns-2 : tie.Need-returns-2
+returns-2 c = search not-closed
+
+returns-3 : tie.Need-returns-3
+returns-3 c = search is-closed
+
+pub close-spec : {M : Type 1} → statement M
+close-spec =
+    tie.close
+    (tie.spec
+    returns
+    sub-at
+    shared-slice-read-leave
+    shared-slice-read-leave-2
+    leave-requires
+    enum-known-exit
+    enum-told
+    returns-2
+    returns-3)

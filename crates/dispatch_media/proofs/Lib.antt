@@ -1,0 +1,3 @@
+pub mod Enters
+pub mod Names
+pub mod Exits

@@ -1,5 +1,0 @@
-pub mod Writes
-pub mod Shows
-pub mod Leads
-pub mod Titles
-pub mod Whichever

@@ -1,0 +1,3 @@
+pub mod Tight
+pub mod Private
+pub mod Word

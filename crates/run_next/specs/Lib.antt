@@ -1,0 +1,3 @@
+pub mod Idle
+pub mod Reach
+pub mod Walks

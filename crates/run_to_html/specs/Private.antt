@@ -1,0 +1,63 @@
+-- What the inner functions do: no part of a promise. Assumes nothing.
+use mathlib.Core.Path.{_≡_}
+use mathlib.Core.Bool.{Bool, true, false}
+use mathlib.Core.List.{List, [], _++_}
+use Prim.Native.Nat.{ℕ}
+use lib.Dec.{eqb}
+use lib.ListN.{length}
+use Rattle.lent.specs.Bytes.{if_then_else_}
+use Rattle.event.specs.declared.EventIndex.{EventIndex}
+use Rattle.machine.specs.declared.Options.{Options}
+use Rattle.machine.specs.declared.Fixed.{Fixed}
+use Rattle.machine.specs.State.{State, start}
+use Rattle.machine.specs.Turn.{Turn}
+use Rattle.machine_bounded.specs.Within.{Goes}
+use Rattle.machine_clean.specs.Clean.{Clean}
+use Rattle.machine_clean.specs.Section.{Called}
+use Rattle.state_media.specs.declared.Links.{Links}
+use Rattle.state_media.specs.declared.Label.the-variants as L
+use Rattle.state_media.specs.declared.Text.the-variants as T
+use Rattle.state_media.specs.declared.Destination.the-variants as D
+use Rattle.state_kept.specs.Kept.{Long}
+use Rattle.state_whole.specs.declared.Whole.{Whole}
+use Rattle.state_whole.specs.Whole.{World, Built}
+use Rattle.dispatch_turns.specs.Passing.{turnsLeft}
+use Rattle.run_next.specs.Reach.{run, Stands}
+use Rattle.call_build_answer.specs.declared.Rendered.{Rendered}
+use Rattle.call_build_answer.specs.declared.Rendered.the-variants.{WorkFull, PageFull}
+use Rattle.run_to_html.specs.Renders.{Answers}
+
+abbrev pub noMedia : Links
+noMedia =
+    record {
+      images = record { bits = 0; count = 0 };
+      media = record { «label_id» = L.Unset; label = T.Unset; «reference_id» = L.Unset; destination = D.Nowhere; title = T.Unset };
+      end = 0;
+      setext = T.Unset;
+    }
+
+abbrev pub overOf : ℕ → EventIndex → Rendered
+overOf number place = if eqb number 8 then WorkFull place else PageFull place
+
+-- before the first event, whatever is lent
+pub record Begun (fixed : Fixed) (b : Whole) : Type 0 where
+  pub begun : (text : List ℕ) (w : World) → length (w .work) ≡ 49152 → length (w .starts) ≡ 64 → Long (w .tables) → Built text b w (start fixed)
+
+-- the last state of a run
+pub record Last (v : State) : Type 0 where
+  pub closed : v .captures ≡ []
+  pub clean : Clean v
+  pub called : Called v
+
+-- behind the last event
+pub record Finishes (b : Whole) (text events work footnotes calls out out′ : List ℕ) (r : Rendered) : Type 0 where
+  pub finishes : (w : World) (s : State) → w .work ≡ work → w .out ≡ out → w .tables .footnotes ≡ footnotes → w .tables .calls ≡ calls → Stands text (length out) b w s → Last s → Answers out′ r (run events (length out) [] s)
+
+-- the turns of both passes, or of the second
+abbrev pub turnsFrom : (definitions : Bool) → (text events : List ℕ) → Options → List Turn
+turnsFrom true text events o = turnsLeft true text events o false 0 ++ turnsLeft false text events o false 0
+turnsFrom false text events o = turnsLeft false text events o false 0
+
+-- over them, to the end
+pub record FinishesAll (definitions : Bool) (text events : List ℕ) (o : Options) (b : Whole) (w : World) (out′ : List ℕ) (r : Rendered) : Type 0 where
+  pub finishes : (s v : State) → Stands text (length (w .out)) b w s → Goes (turnsFrom definitions text events o) s v → Last v → Answers out′ r (run events (length (w .out)) (turnsFrom definitions text events o) s)

@@ -1,0 +1,20 @@
+-- What is saved is the start of the one below.
+use borrow.Author.Needs.{needs}
+use Rattle.state_buffers.proofs.drop.Statement.{statement}
+use Rattle.state_buffers.proofs.drop.Tie as tie
+use Rattle.state_buffers.proofs.Captures.{drops, drops-not}
+
+returns : tie.Need-returns
+returns c = search drops-not
+
+sub-d : tie.Need-sub-d
+sub-d c = search needs
+
+start-at-requires : tie.Need-start-at-requires
+start-at-requires c κs = search needs
+
+returns-2 : tie.Need-returns-2
+returns-2 c = search drops
+
+pub drop-spec : {M : Type 1} → statement M
+drop-spec = tie.close (tie.spec returns sub-d start-at-requires returns-2)

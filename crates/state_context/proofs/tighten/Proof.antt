@@ -1,0 +1,15 @@
+-- By the bits.
+use borrow.Author.Needs.{needs}
+use Rattle.state_context.proofs.tighten.Statement.{statement}
+use Rattle.state_context.proofs.tighten.Tie as tie
+use Rattle.packed.proofs.more.Reads as more-reads
+use Rattle.state_context.proofs.Containers.{widens}
+
+more-requires : tie.Need-more-requires
+more-requires c κs = search needs
+
+returns : tie.Need-returns
+returns c = search widens
+
+pub tighten-spec : {M : Type 1} → statement M
+tighten-spec = tie.close (tie.spec more-requires returns)

@@ -1,0 +1,55 @@
+-- From k on the bytes are moved.
+use Prim.Native.Nat.{_-_}
+use borrow.Author.Needs.{needs}
+use Rattle.state_resume.proofs.shift_up.Statement.{statement}
+use Rattle.state_resume.proofs.shift_up.Tie as tie
+use Rattle.state_resume.proofs.Moves.{Rising, up-none, up-more, up-end}
+
+abbrev Inv-loop : tie.InvT-loop
+Inv-loop w₀ from to n k₀ w k = Rising w₀ from to n w k
+
+abbrev μ-loop : tie.MeasureT-loop
+μ-loop w₀ from to n k₀ w k = k - from
+
+loop-holds : tie.Need-loop-holds Inv-loop μ-loop
+loop-holds c = search up-none
+
+sub-j : tie.Need-sub-j Inv-loop μ-loop
+sub-j c = search needs
+
+slice-read-x : tie.Need-slice-read-x Inv-loop μ-loop
+slice-read-x c = search needs
+
+add-w : tie.Need-add-w Inv-loop μ-loop
+add-w c = search needs
+
+slice-write-w : tie.Need-slice-write-w Inv-loop μ-loop
+slice-write-w c = search needs
+
+loop-less : tie.Need-loop-less Inv-loop μ-loop
+loop-less c = search needs
+
+loop-again : tie.Need-loop-again Inv-loop μ-loop
+loop-again c = search up-more
+
+same-length : tie.Need-same-length Inv-loop μ-loop
+same-length c = search needs
+
+returns : tie.Need-returns Inv-loop μ-loop
+returns c = search up-end
+
+pub shift-up-spec : {M : Type 1} → statement M
+shift-up-spec =
+    tie.close
+    (tie.spec
+    Inv-loop
+    μ-loop
+    loop-holds
+    sub-j
+    slice-read-x
+    add-w
+    slice-write-w
+    loop-less
+    loop-again
+    same-length
+    returns)

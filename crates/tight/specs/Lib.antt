@@ -1,2 +1,0 @@
-pub mod Tight
-pub mod Private

@@ -1,5 +1,0 @@
-pub mod Quiet
-pub mod Parts
-pub mod Lifts
-pub mod Media
-pub mod Shown

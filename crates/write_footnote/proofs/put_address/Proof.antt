@@ -1,0 +1,59 @@
+-- The loop's invariant: what is left is the address of what is left of the identity at the cursor. Assumes nothing.
+use Prim.Native.Nat.{_-_}
+use lib.ListN.{length}
+use Rattle.lent.proofs.Laws.{Left, all, step, done}
+use Rattle.normalize_identifier.proofs.Laws.{forward-more}
+use Rattle.machine.specs.Footnote.{addressOf}
+use Rattle.write_footnote.proofs.Laws.{addressAt, address-start, address-more, address-end}
+use borrow.Author.Needs.{needs}
+use Rattle.write_footnote.proofs.put_address.Statement.{statement}
+use Rattle.write_footnote.proofs.put_address.Tie as tie
+
+abbrev Inv-loop : tie.InvT-loop
+Inv-loop label out₀ at c₀ end₀ out c end = Left out₀ at (addressOf label) out end (addressAt label c)
+
+abbrev μ-loop : tie.MeasureT-loop
+μ-loop label out₀ at c₀ end₀ out c end = length label - c .at
+
+loop-holds : tie.Need-loop-holds Inv-loop μ-loop
+loop-holds c = search (all, address-start)
+
+next-requires : tie.Need-next-requires Inv-loop μ-loop
+next-requires c κs = search needs
+
+enum-known-b : tie.Need-enum-known-b Inv-loop μ-loop
+enum-known-b c = search needs
+
+enum-told : tie.Need-enum-told Inv-loop μ-loop
+enum-told c = search needs
+
+same-length : tie.Need-same-length Inv-loop μ-loop
+same-length c = search needs
+
+returns : tie.Need-returns Inv-loop μ-loop
+returns c = search (done, address-end)
+
+put-byte-requires : tie.Need-put-byte-requires Inv-loop μ-loop
+put-byte-requires c κs = search needs
+
+loop-less : tie.Need-loop-less Inv-loop μ-loop
+loop-less c = search forward-more
+
+loop-again : tie.Need-loop-again Inv-loop μ-loop
+loop-again c = search (step, address-more)
+
+pub put-address-spec : {M : Type 1} → statement M
+put-address-spec =
+    tie.close
+    (tie.spec
+    Inv-loop
+    μ-loop
+    loop-holds
+    next-requires
+    enum-known-b
+    enum-told
+    same-length
+    returns
+    put-byte-requires
+    loop-less
+    loop-again)

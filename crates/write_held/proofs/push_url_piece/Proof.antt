@@ -1,0 +1,30 @@
+-- A part of the work bytes is a piece of a region.
+use borrow.Author.Needs.{needs}
+use Rattle.write_held.proofs.push_url_piece.Statement.{statement}
+use Rattle.write_held.proofs.push_url_piece.Tie as tie
+use Rattle.write_held.proofs.Showing.{shows-far, shows-url}
+
+returns : tie.Need-returns
+returns c = shows-far (search needs)
+
+add-push-url-part : tie.Need-add-push-url-part
+add-push-url-part c = search needs
+
+push-url-part-requires : tie.Need-push-url-part-requires
+push-url-part-requires c κs = search needs
+
+same-length : tie.Need-same-length
+same-length c = search needs
+
+same-length-2 : tie.Need-same-length-2
+same-length-2 c = search needs
+
+returns-2 : tie.Need-returns-2
+returns-2 c =
+    let c1 = c .before .before .before .before in
+    shows-url (c1 .push-url-part .ensures)
+
+pub push-url-piece-spec : {M : Type 1} → statement M
+push-url-piece-spec =
+    tie.close
+    (tie.spec returns add-push-url-part push-url-part-requires same-length same-length-2 returns-2)

@@ -1,0 +1,5 @@
+pub mod Decimal
+pub mod Values
+pub mod Padded
+pub mod Addresses
+pub mod Pushed

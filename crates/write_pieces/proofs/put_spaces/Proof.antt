@@ -1,0 +1,48 @@
+-- The loop's invariant: what is left is to append the spaces that are left. Assumes nothing.
+use lib.ListN.{replicate}
+use Rattle.lent.proofs.Laws.{Left, all, step, done}
+use Rattle.write_pieces.proofs.Decimal.{space-more, space-end}
+use borrow.Author.Needs.{needs}
+use Rattle.write_pieces.proofs.put_spaces.Statement.{statement}
+use Rattle.write_pieces.proofs.put_spaces.Tie as tie
+
+abbrev Inv-loop : tie.InvT-loop
+Inv-loop out₀ at n r₀ left₀ out r left = Left out₀ at (replicate n 32) out r (replicate left 32)
+
+abbrev μ-loop : tie.MeasureT-loop
+μ-loop out₀ at n r₀ left₀ out r left = left
+
+loop-holds : tie.Need-loop-holds Inv-loop μ-loop
+loop-holds c = all
+
+put-requires : tie.Need-put-requires Inv-loop μ-loop
+put-requires c κs = search needs
+
+sub-left : tie.Need-sub-left Inv-loop μ-loop
+sub-left c = search needs
+
+loop-less : tie.Need-loop-less Inv-loop μ-loop
+loop-less c = search needs
+
+loop-again : tie.Need-loop-again Inv-loop μ-loop
+loop-again c = search (step, space-more)
+
+same-length : tie.Need-same-length Inv-loop μ-loop
+same-length c = search needs
+
+returns : tie.Need-returns Inv-loop μ-loop
+returns c = search (done, space-end)
+
+pub put-spaces-spec : {M : Type 1} → statement M
+put-spaces-spec =
+    tie.close
+    (tie.spec
+    Inv-loop
+    μ-loop
+    loop-holds
+    put-requires
+    sub-left
+    loop-less
+    loop-again
+    same-length
+    returns)

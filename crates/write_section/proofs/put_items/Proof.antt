@@ -1,0 +1,49 @@
+-- The loop's invariant: a page stands of which the calls that are left make the last one. Assumes nothing.
+use Prim.Native.Nat.{_-_}
+use mathlib.Core.Path.{_≡_}
+use lib.ListN.{length}
+use Rattle.write_section.proofs.Items.{Going, going-start, going-more, going-end}
+use borrow.Author.Needs.{needs}
+use Rattle.write_section.proofs.put_items.Statement.{statement}
+use Rattle.write_section.proofs.put_items.Tie as tie
+
+abbrev Inv-loop : tie.InvT-loop
+Inv-loop k ending text work footnotes calls out₀ at n r₀ i₀ out r i = (n ≡ k .calls) × (length out ≡ length out₀) × Going k ending text work footnotes calls out₀ at i out r
+
+abbrev μ-loop : tie.MeasureT-loop
+μ-loop k ending text work footnotes calls out₀ at n r₀ i₀ out r i = n - i
+
+loop-holds : tie.Need-loop-holds Inv-loop μ-loop
+loop-holds c = (search needs, search needs, search going-start)
+
+put-called-requires : tie.Need-put-called-requires Inv-loop μ-loop
+put-called-requires c κs = search needs
+
+add-i : tie.Need-add-i Inv-loop μ-loop
+add-i c = search needs
+
+loop-less : tie.Need-loop-less Inv-loop μ-loop
+loop-less c = search needs
+
+loop-again : tie.Need-loop-again Inv-loop μ-loop
+loop-again c = (search needs, search needs, search going-more)
+
+same-length : tie.Need-same-length Inv-loop μ-loop
+same-length c = search needs
+
+returns : tie.Need-returns Inv-loop μ-loop
+returns c = search going-end
+
+pub put-items-spec : {M : Type 1} → statement M
+put-items-spec =
+    tie.close
+    (tie.spec
+    Inv-loop
+    μ-loop
+    loop-holds
+    put-called-requires
+    add-i
+    loop-less
+    loop-again
+    same-length
+    returns)
