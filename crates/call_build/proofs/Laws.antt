@@ -16,8 +16,8 @@ use Rattle.machine.specs.declared.Options.{Options}
 use Rattle.machine.specs.Run.{fixedOf, runOf}
 use Rattle.machine_never.proofs.Whole.{ending-goes, begins, turns-go}
 use Rattle.run_to_html.specs.Renders.{Runs, Answers, Renders}
-use Rattle.call_build_answer.specs.declared.Rendered.{Rendered}
-use Rattle.call_build_answer.specs.declared.Rendered.the-variants as R
+use Rattle.run_answer.specs.declared.Rendered.{Rendered}
+use Rattle.run_answer.specs.declared.Rendered.the-variants as R
 use Rattle.call_build_answer.specs.Rendered.{builtOf, keptOf}
 use Rattle.call_build_answer.specs.declared.Built.{Built}
 use Rattle.call_build_answer.specs.declared.Built.the-variants.{Refused}

@@ -5,9 +5,9 @@ ghost use Rattle.call_build.specs.Build.{Builds};
 ghost use Rattle.run_to_html.specs.Renders.{Renders};
 use call_build_answer::Built;
 use call_build_answer::LEAST_WORK;
-use call_build_answer::Rendered;
 use check_list::Checked;
 use machine::Options;
+use run_answer::Rendered;
 
 // Checks a note and writes its page into the output. Demands nothing: what is wrong is refused by its number.
 pub fn build(text: &[u8], events: &[u8], options: Options, out: &mut [u8], work: &mut [u8]) -> Built

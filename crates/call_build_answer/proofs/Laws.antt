@@ -13,8 +13,8 @@ use Rattle.check_list.specs.declared.Checked.{Checked}
 use Rattle.check_list.specs.declared.Checked.the-variants.{Yes, WrongLength}
 use Rattle.check_list.specs.Checked.{checkOf, Checks}
 use Rattle.event.specs.declared.EventIndex.{EventIndex}
-use Rattle.call_build_answer.specs.declared.Rendered.{Rendered}
-use Rattle.call_build_answer.specs.declared.Rendered.the-variants as R
+use Rattle.run_answer.specs.declared.Rendered.{Rendered}
+use Rattle.run_answer.specs.declared.Rendered.the-variants as R
 use Rattle.call_build_answer.specs.declared.Built.{Built}
 use Rattle.call_build_answer.specs.declared.Built.the-variants.{Page, WorkFull, PageFull}
 use Rattle.call_build_answer.specs.Built.{checkedOf, clearedFrom, Leaves}

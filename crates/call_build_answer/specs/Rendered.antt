@@ -1,7 +1,7 @@
 -- The answer to what a run comes to, and how much of the output stays: no part of a promise, `Builds` has its own. Assumes nothing.
 use Prim.Native.Nat.{ℕ}
-use Rattle.call_build_answer.specs.declared.Rendered.{Rendered}
-use Rattle.call_build_answer.specs.declared.Rendered.the-variants as R
+use Rattle.run_answer.specs.declared.Rendered.{Rendered}
+use Rattle.run_answer.specs.declared.Rendered.the-variants as R
 use Rattle.call_build_answer.specs.declared.Built.{Built}
 use Rattle.call_build_answer.specs.declared.Built.the-variants.{Page, WorkFull, PageFull}
 

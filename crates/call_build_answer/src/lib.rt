@@ -5,18 +5,12 @@ ghost use Rattle.call_build_answer.specs.Rendered.{builtOf, keptOf};
 ghost use Rattle.call_build_answer.specs.Private.{Clears};
 use check_list::Checked;
 use event::EventIndex;
+use run_answer::Rendered;
 
 // The page's length; refusals 1 to 7; or 8 and 9, with the event after which the work bytes or the output have no room.
 pub enum Built {
     Page(usize),
     Refused(Checked),
-    WorkFull(EventIndex),
-    PageFull(EventIndex),
-}
-
-// What a run comes to: a page's length, or the event after which the work bytes or the output have no room; in the footnote section, the count of events.
-pub enum Rendered {
-    Page(usize),
     WorkFull(EventIndex),
     PageFull(EventIndex),
 }

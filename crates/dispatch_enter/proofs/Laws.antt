@@ -1,36 +1,22 @@
 -- What the dispatcher's own handlers take beside the context's laws, and how a group's promise becomes the whole's. Assumes nothing.
 use mathlib.Core.Path.{_≡_, refl, ap, _∙_}
 use mathlib.Core.Bool.{Bool, true, false, _||_}
-use mathlib.Core.List.{List, [], _∷_}
+use mathlib.Core.List.{List}
 use Prim.Native.Nat.{ℕ, _≤_}
 use lib.Dec.{eqb}
 use Rattle.event.specs.declared.Event.{Event}
-use Rattle.event.specs.Event.{isLoose, eventAt}
-use Rattle.machine.specs.declared.Options.{Options}
+use Rattle.event.specs.Event.{isLoose}
 use Rattle.machine.specs.Turn.{Turn}
-use Rattle.machine.specs.Command.{Command, _▸_}
 use Rattle.machine.specs.OnList.{onEnterList}
-use Rattle.machine.proofs.Outcomes.{first-goes}
-use Rattle.machine_bounded.specs.Within.{within}
 use Rattle.state_context.specs.declared.Context.{Context}
-use Rattle.state_context.specs.Rel.{Keeps, Begins, Sets, HtmlAllowed}
+use Rattle.state_context.specs.Rel.{Keeps, HtmlAllowed}
 use Rattle.state_context.proofs.Commands.{narrow}
 use Rattle.on_list.specs.Lists.{OpensList}
 use Rattle.on_table.specs.Table.{IsEvent}
-use Rattle.dispatch_turns.specs.Turns.{TurnAt, Among}
+use Rattle.dispatch_turns.specs.Turns.{Among}
 use Rattle.dispatch_turns.proofs.Turns.{seen-as}
 use Rattle.dispatch_enter.specs.Enters.{Enters}
 use Rattle.dispatch_enter.specs.Private.{Of}
-
--- a capture is opened, and something set behind it
-pub begins-first : {d e : Command} {c r q : Context} {starts starts′ : List ℕ} → Begins d c starts r starts′ → Sets e r q → Begins (d ▸ e) c starts q starts′
-unfolding within
-begins-first {d} {e} {starts′ = starts′} k l =
-    record {
-      begins = λ w o. record {
-        opens = λ t s u v n x p. (let f = first-goes (within d t s) (λ y. within e t y) u p in l .sets w o .keeps t starts′ (f .0) u v (k .begins w o .opens t s (f .0) v n x (f .1)) (f .2));
-      };
-    }
 
 or-no : (x : Bool) → (x || false) ≡ x
 or-no true = refl

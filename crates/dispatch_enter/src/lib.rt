@@ -1,29 +1,13 @@
 // An enter goes to its handler by its name, where that leaves media, labels, the setext text and what is kept alone; elsewhere the state is left as it is.
 ghost use mathlib.Core.Bool.{true};
 ghost use Rattle.machine.specs.OnList.{onEnterList};
-ghost use Rattle.machine.specs.OnMedia.{onEnterResourceDestinationString};
-ghost use Rattle.machine.specs.OnFootnote.{onEnterGfmFootnoteDefinition};
-ghost use Rattle.state_context.specs.Rel.{Keeps, Begins, Sets};
+ghost use Rattle.state_context.specs.Rel.{Keeps};
 ghost use Rattle.on_table.specs.Table.{IsEvent};
 ghost use Rattle.dispatch_turns.specs.Turns.{Among};
 ghost use Rattle.dispatch_enter.specs.Enters.{Enters};
 ghost use Rattle.dispatch_enter.specs.Private.{Of};
 use event::Event;
 use state_context::Context;
-
-// A resource's destination or a definition's: a URL is encoded later.
-pub fn on_enter_destination_string(c: Context, starts: &mut [usize]) -> Context
-    ensures { λ r. ⌜ Begins onEnterResourceDestinationString c (now (starts .entry)) r (now (starts .exit)) ⌝ }
-{
-    let r = state_context::open(c, starts);
-    state_context::set_encode(r, false)
-}
-
-pub fn on_enter_gfm_footnote_definition(c: Context) -> Context
-    ensures { λ r. ⌜ Sets onEnterGfmFootnoteDefinition c r ⌝ }
-{
-    state_context::tighten(c, false)
-}
 
 fn enter_list(c: Context, e: Event, captures: &mut [u8], out: &mut [u8]) -> Context
     ensures { λ r. ⌜ Keeps (IsEvent e) onEnterList c (now (captures .entry)) (now (out .entry)) r (now (captures .exit)) (now (out .exit)) ⌝ }
@@ -73,17 +57,17 @@ fn enter_inline(
 {
     let name = e.name;
     match name {
-        Event::CODE_TEXT => on_text::on_enter_raw_text(c, captures, starts, out),
+        Event::CODE_TEXT => on_inline::on_enter_raw_text(c, captures, starts, out),
         Event::HTML_FLOW => on_text::on_enter_html_flow(c, allowed, captures, out),
         Event::HTML_TEXT => on_text::on_enter_html_text(c, allowed),
-        Event::EMPHASIS => on_text::on_enter_emphasis(c, captures, out),
-        Event::STRONG => on_text::on_enter_strong(c, captures, out),
+        Event::EMPHASIS => on_inline::on_enter_emphasis(c, captures, out),
+        Event::STRONG => on_inline::on_enter_strong(c, captures, out),
         Event::LABEL => on_text::on_enter_buffer(c, starts),
-        Event::RESOURCE_DESTINATION_STRING => on_enter_destination_string(c, starts),
+        Event::RESOURCE_DESTINATION_STRING => on_link::on_enter_destination_string(c, starts),
         Event::RESOURCE_TITLE_STRING => on_text::on_enter_buffer(c, starts),
         Event::REFERENCE_STRING => on_text::on_enter_buffer(c, starts),
         Event::DEFINITION_LABEL_STRING => on_text::on_enter_buffer(c, starts),
-        Event::DEFINITION_DESTINATION_STRING => on_enter_destination_string(c, starts),
+        Event::DEFINITION_DESTINATION_STRING => on_link::on_enter_destination_string(c, starts),
         Event::DEFINITION_TITLE_STRING => on_text::on_enter_buffer(c, starts),
         _ => c,
     }
@@ -106,7 +90,7 @@ fn enter_gfm(
         Event::GFM_TABLE_BODY => on_table::on_enter_gfm_table_body(c, captures, out),
         Event::GFM_TABLE_ROW => on_cell::on_enter_gfm_table_row(c, captures, out),
         Event::GFM_TABLE_CELL => on_cell::on_enter_gfm_table_cell(c, captures, starts, out),
-        Event::GFM_FOOTNOTE_DEFINITION => on_enter_gfm_footnote_definition(c),
+        Event::GFM_FOOTNOTE_DEFINITION => on_footnote::on_enter_gfm_footnote_definition(c),
         Event::GFM_FOOTNOTE_DEFINITION_PREFIX => on_text::on_enter_buffer(c, starts),
         _ => c,
     }

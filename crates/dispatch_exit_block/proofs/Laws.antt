@@ -10,30 +10,18 @@ use Rattle.event.specs.declared.Event.{Event}
 use Rattle.event.specs.Event.{eventAt}
 use Rattle.machine.specs.declared.Options.{Options}
 use Rattle.machine.specs.Turn.{Turn, lookBack}
-use Rattle.machine.specs.Command.{Command, _▸_}
-use Rattle.machine.proofs.Outcomes.{first-goes}
-use Rattle.machine_bounded.specs.Within.{within}
+use Rattle.machine.specs.Command.{Command}
 use Rattle.dispatch_look_back.specs.Behind.{eventsBefore, nameOf, isAfterFence}
 use Rattle.dispatch_look_back.proofs.Laws.{name-is, fence-is}
 use Rattle.state_context.specs.declared.Context.{Context}
-use Rattle.state_context.specs.Rel.{Any, Sees, FenceBefore, Keeps, Begins, Ends}
+use Rattle.state_context.specs.Rel.{Any, Sees, FenceBefore, Keeps, Renews}
 use Rattle.state_context.proofs.Commands.{narrow}
 use Rattle.on_list.specs.Lists.{IsOrdered, LooksBack}
 use Rattle.dispatch_turns.specs.Turns.{TurnAt, Among}
 use Rattle.dispatch_turns.proofs.Turns.{seen-as}
 use Rattle.dispatch_turns.proofs.Arms.{handlerAt, arm}
-use Rattle.dispatch_exit_block.specs.Exits.{isInLine, Exits, Renews}
+use Rattle.dispatch_exit_block.specs.Exits.{isInLine, Exits}
 use Rattle.dispatch_exit_block.specs.Private.{After, Here}
-
--- a capture is taken off, and another opened
-pub renewed : {d e : Command} {c r q : Context} {starts starts′ : List ℕ} → Ends d c starts r → Begins e r starts q starts′ → Renews (d ▸ e) c starts q starts′
-unfolding within
-renewed {d} {e} k l =
-    record {
-      renews = λ w o. record {
-        turns = λ t s u v m n x p. (let f = first-goes (within d t s) (λ y. within e t y) u p in l .begins w o .opens t (f .0) u v n (k .ends w o .takes t s (f .0) v m x (f .1)) (f .2));
-      };
-    }
 
 -- ---- views
 

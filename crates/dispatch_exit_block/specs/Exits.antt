@@ -7,10 +7,8 @@ use lib.Dec.{ltb}
 use Rattle.event.specs.declared.Event.{Event}
 use Rattle.event.specs.Event.{isEnter, eventAt}
 use Rattle.machine.specs.declared.Options.{Options}
-use Rattle.machine.specs.Command.{Command}
 use Rattle.state_context.specs.declared.Context.{Context}
-use Rattle.state_context.specs.Rel.{Any}
-use Rattle.dispatch_turns.specs.Turns.{TurnAt, Turns, Dispatches}
+use Rattle.dispatch_turns.specs.Turns.{TurnAt, Dispatches}
 
 -- the names of what stands in a line: another dispatcher has these
 abbrev pub isInLine : ℕ → Bool
@@ -19,7 +17,3 @@ isInLine n = ltb n 12 || (ltb 32 n && ltb n 45)
 -- the exit at an index, of any other name
 pub record Exits (text events : List ℕ) (i : ℕ) (e : Event) (c : Context) (captures starts out : List ℕ) (r : Context) (captures′ starts′ out′ : List ℕ) : Type 0 where
   pub exits : (o : Options) → eventAt events i ≡ e → isEnter e ≡ false → isInLine (e .name) ≡ false → Dispatches (TurnAt text events o i) e c captures starts out r captures′ starts′ out′
-
--- a capture is taken off and another opened, without a byte
-pub record Renews (d : Command) (c : Context) (starts : List ℕ) (r : Context) (starts′ : List ℕ) : Type 0 where
-  pub renews : (captures out : List ℕ) → Turns Any d c captures starts out r captures starts′ out

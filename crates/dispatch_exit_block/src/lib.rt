@@ -4,22 +4,13 @@ ghost use Prim.Native.Nat.{_<_};
 ghost use Rattle.event.specs.Event.{countOf};
 ghost use Rattle.machine.specs.OnFlow.{onExitRawFlow};
 ghost use Rattle.machine.specs.OnList.{onExitListItem};
-ghost use Rattle.machine.specs.OnFootnote.{onExitGfmFootnoteDefinitionPrefix};
 ghost use Rattle.state_context.specs.Rel.{Any, Sees, Keeps};
 ghost use Rattle.dispatch_turns.specs.Turns.{Among};
-ghost use Rattle.dispatch_exit_block.specs.Exits.{Exits, Renews};
+ghost use Rattle.dispatch_exit_block.specs.Exits.{Exits};
 ghost use Rattle.dispatch_exit_block.specs.Private.{After, Here};
 use event::Event;
 use event::EventIndex;
 use state_context::Context;
-
-// Of a footnote definition: the prefix is dropped; everything until the end of the definition is captured.
-pub fn on_exit_gfm_footnote_definition_prefix(c: Context, starts: &mut [usize]) -> Context
-    ensures { λ r. ⌜ Renews onExitGfmFootnoteDefinitionPrefix c (now (starts .entry)) r (now (starts .exit)) ⌝ }
-{
-    let r = state_context::drop(c, starts);
-    state_context::open(r, starts)
-}
 
 fn exit_list_item(
     c: Context,
@@ -67,7 +58,7 @@ fn exit_block(
         Event::HEADING_ATX_SEQUENCE => {
             on_heading::on_exit_heading_atx_sequence(c, text, e, captures, out)
         }
-        Event::HEADING_ATX_TEXT => on_flow::on_exit_heading_atx_text(c, captures, starts, out),
+        Event::HEADING_ATX_TEXT => on_heading::on_exit_heading_atx_text(c, captures, starts, out),
         Event::THEMATIC_BREAK => on_flow::on_exit_thematic_break(c, captures, out),
         Event::BLOCK_QUOTE => on_flow::on_exit_block_quote(c, captures, out),
         Event::LIST_ORDERED => on_list::on_exit_list(c, true, captures, out),
@@ -101,7 +92,7 @@ fn exit_content(
             on_flow::on_exit_raw_flow_fence_info(c, captures, starts, out)
         }
         Event::CODE_FENCED_FENCE_META => on_text::on_exit_drop(c, starts),
-        Event::CODE_FLOW_CHUNK => on_heading::on_exit_raw_flow_chunk(c, text, e, captures, out),
+        Event::CODE_FLOW_CHUNK => on_flow::on_exit_raw_flow_chunk(c, text, e, captures, out),
         _ => c,
     }
 }
@@ -124,7 +115,8 @@ fn exit_table(
         Event::GFM_TABLE_BODY => on_table::on_exit_gfm_table_body(c, captures, out),
         Event::GFM_TABLE_ROW => on_cell::on_exit_gfm_table_row(c, captures, out),
         Event::GFM_TABLE_CELL => on_cell::on_exit_gfm_table_cell(c, captures, starts, out),
-        Event::GFM_FOOTNOTE_DEFINITION_PREFIX => on_exit_gfm_footnote_definition_prefix(c, starts),
+        Event::GFM_FOOTNOTE_DEFINITION_PREFIX =>
+            on_footnote::on_exit_gfm_footnote_definition_prefix(c, starts),
         _ => c,
     }
 }

@@ -80,7 +80,7 @@ fn exit_data(
             on_text::on_exit_character_reference_marker_hexadecimal(c)
         }
         Event::CHARACTER_REFERENCE_VALUE => {
-            on_inline::on_exit_character_reference_value(c, text, e, captures, out)
+            on_text::on_exit_character_reference_value(c, text, e, captures, out)
         }
         _ => c,
     }
@@ -106,10 +106,10 @@ fn exit_inline(
         Event::HTML_FLOW_DATA => on_text::on_exit_html_data(c, text, e, captures, out),
         Event::HTML_TEXT => on_text::on_exit_html(c),
         Event::HTML_TEXT_DATA => on_text::on_exit_html_data(c, text, e, captures, out),
-        Event::EMPHASIS => on_text::on_exit_emphasis(c, captures, out),
-        Event::STRONG => on_text::on_exit_strong(c, captures, out),
-        Event::HARD_BREAK_ESCAPE => on_text::on_exit_break(c, captures, out),
-        Event::HARD_BREAK_TRAILING => on_text::on_exit_break(c, captures, out),
+        Event::EMPHASIS => on_inline::on_exit_emphasis(c, captures, out),
+        Event::STRONG => on_inline::on_exit_strong(c, captures, out),
+        Event::HARD_BREAK_ESCAPE => on_inline::on_exit_break(c, captures, out),
+        Event::HARD_BREAK_TRAILING => on_inline::on_exit_break(c, captures, out),
         Event::AUTOLINK_EMAIL => on_inline::on_exit_autolink_email(c, text, e, captures, out),
         Event::AUTOLINK_PROTOCOL => {
             on_inline::on_exit_autolink_protocol(c, text, e, options, captures, out)

@@ -40,10 +40,10 @@ not-not false false p = p
 -- ---- which is which
 
 module _ (e : Event) {x r : Bool} (q : x ≡ isEnter e) (n : e .name ≤ 255) where
-  pub whole-enter : x ≡ true → r ≡ EntersWhole.isWhole (e .name) → r ≡ not (isQuiet (commandFor e))
+  pub whole-enter : x ≡ true → r ≡ EntersWhole.entersWhole (e .name) → r ≡ not (isQuiet (commandFor e))
   whole-enter z p = not-not (isQuiet (commandFor e)) r (EnterLaws.quiet-is e (sym q ∙ z) n ∙ ap not (sym p))
 
-  pub whole-exit : x ≡ false → r ≡ ExitsWhole.isWhole (e .name) → r ≡ not (isQuiet (commandFor e))
+  pub whole-exit : x ≡ false → r ≡ ExitsWhole.exitsWhole (e .name) → r ≡ not (isQuiet (commandFor e))
   whole-exit z p = not-not (isQuiet (commandFor e)) r (ExitNames.quiet-is e (sym q ∙ z) n ∙ ap not (sym p))
 
 -- ---- the context alone

@@ -10,8 +10,8 @@ use Rattle.state_whole.specs.declared.Whole.{Whole}
 use Rattle.dispatch_turns.specs.Loud.{world, Shows, Acts}
 
 -- its names: those whose exit has a command that is not quiet
-abbrev pub isWhole : ℕ → Bool
-isWhole n = ((eqb n 17 || eqb n 18) || ((ltb 44 n && ltb n 57) && not (eqb n 49))) || ((eqb n 62 || eqb n 63) || eqb n 65)
+abbrev pub exitsWhole : ℕ → Bool
+exitsWhole n = ((eqb n 17 || eqb n 18) || ((ltb 44 n && ltb n 57) && not (eqb n 49))) || ((eqb n 62 || eqb n 63) || eqb n 65)
 
 pub record Exits (text : List ℕ) (e : Event) (o : Options) (b : Whole) (work starts out : List ℕ) (t : Tables) (r : Whole) (work′ out′ : List ℕ) (t′ : Tables) : Type 0 where
   pub exits : Acts false 0 255 text (Shows text o e) e b (world work out starts t) r (world work′ out′ starts t′)

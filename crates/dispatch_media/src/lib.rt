@@ -1,15 +1,15 @@
 // An enter of a link, an image, a resource, a definition or a call goes to its handler by its name; elsewhere the state is left as it is.
 ghost use mathlib.Core.Path.{_≡_};
-ghost use Rattle.dispatch_media.specs.Enters.{isWhole, Enters};
+ghost use Rattle.dispatch_media.specs.Enters.{entersWhole, Enters};
 ghost use Rattle.state_kept.specs.Kept.{tables};
-ghost use Rattle.dispatch_media.specs.Exits.{isWhole, Exits, ExitsSetext, ExitsMedia, ExitsFootnote};
+ghost use Rattle.dispatch_media.specs.Exits.{exitsWhole, Exits, ExitsSetext, ExitsMedia, ExitsFootnote};
 use event::Event;
 use machine::Options;
 use state_whole::Whole;
 
 // Whether a name is of this crate.
 pub fn enters_whole(name: u8) -> bool
-    ensures { λ r. ⌜ r ≡ isWhole name ⌝ }
+    ensures { λ r. ⌜ r ≡ entersWhole name ⌝ }
 {
     let medium = (name == Event::LINK) | (name == Event::IMAGE);
     let part = (name == Event::RESOURCE) | (name == Event::DEFINITION);
@@ -24,7 +24,7 @@ pub fn on_enter(b: Whole, e: Event, starts: &mut [usize]) -> Whole
         Event::LINK => on_link::on_enter_link(b),
         Event::IMAGE => on_link::on_enter_image(b),
         Event::RESOURCE => on_link::on_enter_resource(b, starts),
-        Event::DEFINITION => on_link::on_enter_definition(b, starts),
+        Event::DEFINITION => on_definition::on_enter_definition(b, starts),
         Event::GFM_FOOTNOTE_CALL => on_footnote::on_enter_gfm_footnote_call(b),
         _ => b,
     }
@@ -34,7 +34,7 @@ pub fn on_enter(b: Whole, e: Event, starts: &mut [usize]) -> Whole
 
 // Whether a name is of this crate.
 pub fn exits_whole(name: u8) -> bool
-    ensures { λ r. ⌜ r ≡ isWhole name ⌝ }
+    ensures { λ r. ⌜ r ≡ exitsWhole name ⌝ }
 {
     let setext = (name == Event::HEADING_SETEXT_TEXT)
         | (name == Event::HEADING_SETEXT_UNDERLINE_SEQUENCE);
@@ -91,11 +91,19 @@ fn exit_media(
         Event::RESOURCE_TITLE_STRING => on_link::on_exit_resource_title_string(b, work, starts),
         Event::REFERENCE_STRING => on_link::on_exit_reference_string(b, e, starts),
         Event::DEFINITION => on_definition::on_exit_definition(b, text, work, starts, definitions),
-        Event::DEFINITION_LABEL_STRING => on_link::on_exit_definition_label_string(b, e, starts),
+        Event::DEFINITION_LABEL_STRING => on_definition::on_exit_definition_label_string(
+            b,
+            e,
+            starts,
+        ),
         Event::DEFINITION_DESTINATION_STRING => {
-            on_link::on_exit_definition_destination_string(b, work, starts)
+            on_definition::on_exit_definition_destination_string(b, work, starts)
         }
-        Event::DEFINITION_TITLE_STRING => on_link::on_exit_definition_title_string(b, work, starts),
+        Event::DEFINITION_TITLE_STRING => on_definition::on_exit_definition_title_string(
+            b,
+            work,
+            starts,
+        ),
         _ => b,
     }
 }

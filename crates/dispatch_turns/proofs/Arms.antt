@@ -14,10 +14,10 @@ use Rattle.machine.specs.Turn.{Turn}
 use Rattle.machine.specs.Command.{Command, nothing}
 use Rattle.machine.specs.Handlers.{rows, on, commandIn}
 use Rattle.state_context.specs.declared.Context.{Context}
-use Rattle.state_context.specs.Rel.{Any, Keeps, Takes, Opens, Begins, Ends}
+use Rattle.state_context.specs.Rel.{Any, Keeps, Takes, Opens, Begins, Ends, Turns}
 use Rattle.state_context.proofs.Commands.{any, idle, narrow}
 use Rattle.state_whole.specs.Quiet.{isQuiet}
-use Rattle.dispatch_turns.specs.Turns.{commandFor, Turns, Among}
+use Rattle.dispatch_turns.specs.Turns.{commandFor, Among}
 use Rattle.dispatch_turns.proofs.Turns.{from-keeps, from-takes, from-opens, from-begins, from-ends, seen-as, command-is, dispatched}
 
 -- the command at the enter (x true) or exit of a name

@@ -13,7 +13,7 @@ use Rattle.state_whole.specs.Quiet.{isQuiet}
 use Rattle.state_whole.specs.Whole.{World, Roomy, Handles, withContext, withStarts, withBytes}
 use Rattle.state_whole.proofs.Parts.{front-long}
 use Rattle.state_whole.proofs.Lifts.{kept-on}
-use Rattle.dispatch_turns.specs.Turns.{Turns}
+use Rattle.state_context.specs.Rel.{Turns}
 
 pub lifts-turns : {text : List ℕ} {View : Turn → Type 0} {d : Command} {b : Whole} {w : World} {x : Context} {captures starts out captures′ starts′ out′ : List ℕ} → isQuiet d ≡ true
     → Turns View d (b .context) captures starts out x captures′ starts′ out′ → take 16384 (w .work) ≡ captures → w .starts ≡ starts → w .out ≡ out → length captures′ ≡ length captures → length starts′ ≡ length starts

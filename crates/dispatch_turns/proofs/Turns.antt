@@ -11,9 +11,9 @@ use Rattle.machine.specs.Turn.{Turn}
 use Rattle.machine.specs.Command.{Command, nothing}
 use Rattle.machine.specs.Handlers.{rows, on, commandIn, commandOf}
 use Rattle.state_context.specs.declared.Context.{Context}
-use Rattle.state_context.specs.Rel.{Any, Keeps, Takes, Opens, Sets, SetsFor, Begins, Ends}
+use Rattle.state_context.specs.Rel.{Any, Keeps, Takes, Opens, Sets, SetsFor, Begins, Ends, Turns}
 use Rattle.state_whole.specs.Quiet.{isQuiet}
-use Rattle.dispatch_turns.specs.Turns.{commandFor, Turns, Dispatches}
+use Rattle.dispatch_turns.specs.Turns.{commandFor, Dispatches}
 
 module _ {View : Turn → Type 0} {d : Command} {c r : Context} {captures starts out captures′ out′ : List ℕ} where
   pub from-keeps : Keeps View d c captures out r captures′ out′ → Turns View d c captures starts out r captures′ starts out′

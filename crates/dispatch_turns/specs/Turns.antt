@@ -4,19 +4,16 @@ use mathlib.Core.Bool.{Bool, true}
 use mathlib.Core.List.{List}
 use Prim.Native.Nat.{ℕ, suc, _≤_}
 use lib.Dec.{eqb}
-use lib.ListN.{length, getD}
+use lib.ListN.{getD}
 use Rattle.event.specs.declared.Event.{Event}
 use Rattle.event.specs.Event.{countOf, isEnter, eventAt}
 use Rattle.machine.specs.declared.Options.{Options}
-use Rattle.machine.specs.State.{State}
-use Rattle.machine.specs.Outcome.{go}
 use Rattle.machine.specs.Turn.{Turn}
 use Rattle.machine.specs.Command.{Command, nothing}
 use Rattle.machine.specs.Handlers.{rows, on, commandIn}
-use Rattle.machine_bounded.specs.Within.{within}
 use Rattle.dispatch_look_back.specs.Behind.{eventsBefore}
 use Rattle.state_context.specs.declared.Context.{Context}
-use Rattle.state_context.specs.Rel.{Rel}
+use Rattle.state_context.specs.Rel.{Turns}
 use Rattle.state_whole.specs.Quiet.{isQuiet}
 
 pub record TurnAt (text events : List ℕ) (o : Options) (i : ℕ) (t : Turn) : Type 0 where
@@ -29,10 +26,6 @@ pub record TurnAt (text events : List ℕ) (o : Options) (i : ℕ) (t : Turn) : 
 -- the command of an event: that of its turn
 unfoldable pub commandFor : Event → Command
 commandFor e = commandIn (isEnter e) (getD rows (e .name) (on nothing nothing))
-
--- Where the machine goes on with a command, the code goes with it: where the captures have room and the table of starts its 64 places.
-pub record Turns (View : Turn → Type 0) (d : Command) (c : Context) (captures starts out : List ℕ) (r : Context) (captures′ starts′ out′ : List ℕ) : Type 0 where
-  pub turns : (t : Turn) (s u : State) → View t → c .buffers .end ≤ length captures → length starts ≡ 64 → Rel c captures out starts s → within d t s ≡ go u → Rel r captures′ out′ starts′ u
 
 -- The same for the event's own command, where that leaves media, labels, the setext text and what is kept alone.
 pub record Dispatches (View : Turn → Type 0) (e : Event) (c : Context) (captures starts out : List ℕ) (r : Context) (captures′ starts′ out′ : List ℕ) : Type 0 where

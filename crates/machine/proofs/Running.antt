@@ -18,11 +18,17 @@ use Rattle.machine.specs.Footnote.{addressOf, keep, countAt, timesAt, ca
 use Rattle.machine.specs.Section.{bodyEnd, endsParagraph, backreference, backreferences, pushBody, footnoteItem, footnoteItems, footnoteSection}
 use Rattle.machine.specs.Test.{test}
 use Rattle.machine.specs.Command.{exec}
-use Rattle.machine.specs.OnText.{onExitData, onExitCharacterReferenceMarker, onExitCharacterReferenceMarkerNumeric, onExitCharacterReferenceMarkerHexadecimal, onExitCharacterReferenceValue, onExitLineEnding, onExitBlankLineEnding, onEnterEmphasis, onExitEmphasis, onEnterStrong, onExitStrong, onExitBreak, onEnterRawText, onExitRawText, onEnterHtmlText, onEnterHtmlFlow, onExitHtml, onExitHtmlData, generateAutolink, onExitAutolinkEmail, onExitAutolinkProtocol}
-use Rattle.machine.specs.OnFlow.{onEnterParagraph, onExitParagraph, onEnterBlockQuote, onExitBlockQuote, onExitThematicBreak, onExitHeadingAtxSequence, onExitHeadingAtxText, onExitHeadingAtx, onExitHeadingSetextText, setextRank, onExitHeadingSetextUnderlineSequence, onEnterCodeIndented, onEnterRawFlow, onExitRawFlowFence, onExitRawFlowFenceInfo, onExitRawFlowChunk, onExitRawFlow}
+use Rattle.machine.specs.OnText.{onExitData, onExitCharacterReferenceMarker, onExitCharacterReferenceMarkerNumeric, onExitCharacterReferenceMarkerHexadecimal, onExitCharacterReferenceValue, onExitLineEnding, onExitBlankLineEnding, onEnterHtmlText, onEnterHtmlFlow, onExitHtml, onExitHtmlData, onEnterBuffer, onExitDrop}
+use Rattle.machine.specs.OnInline.{onEnterEmphasis, onExitEmphasis, onEnterStrong, onExitStrong, onExitBreak, onEnterRawText, onExitRawText, generateAutolink, onExitAutolinkEmail, onExitAutolinkProtocol}
+use Rattle.machine.specs.OnFlow.{onEnterParagraph, onExitParagraph, onEnterBlockQuote, onExitBlockQuote, onExitThematicBreak, onEnterCodeIndented, onEnterRawFlow, onExitRawFlowFence, onExitRawFlowFenceInfo, onExitRawFlowChunk, onExitRawFlow}
+use Rattle.machine.specs.OnHeading.{onExitHeadingAtxSequence, onExitHeadingAtxText, onExitHeadingAtx}
+use Rattle.machine.specs.OnSetext.{onExitHeadingSetextText, setextRank, onExitHeadingSetextUnderlineSequence}
 use Rattle.machine.specs.OnList.{onEnterList, onExitList, onEnterListItemMarker, onExitListItemValue, onExitListItem}
-use Rattle.machine.specs.OnTable.{onEnterGfmTable, onExitGfmTable, onEnterGfmTableHead, onExitGfmTableHead, onEnterGfmTableBody, onExitGfmTableBody, onEnterGfmTableCell, onExitGfmTableCell, onEnterGfmTableRow, onExitGfmTableRow}
-use Rattle.machine.specs.OnMedia.{onEnterBuffer, onExitDrop, onEnterLink, onEnterImage, onExitLabel, onExitLabelText, onExitReferenceString, onEnterResource, onEnterResourceDestinationString, onExitResourceDestinationString, onExitResourceTitleString, onExitMedia, onEnterDefinition, onExitDefinitionLabelString, onEnterDefinitionDestinationString, onExitDefinitionDestinationString, onExitDefinitionTitleString, onExitDefinition}
+use Rattle.machine.specs.OnTable.{onEnterGfmTable, onExitGfmTable, onEnterGfmTableHead, onExitGfmTableHead, onEnterGfmTableBody, onExitGfmTableBody}
+use Rattle.machine.specs.OnCell.{onEnterGfmTableCell, onExitGfmTableCell, onEnterGfmTableRow, onExitGfmTableRow}
+use Rattle.machine.specs.OnLink.{onEnterLink, onEnterImage, onExitLabel, onExitLabelText, onExitReferenceString, onEnterResource, onEnterResourceDestinationString, onExitResourceDestinationString, onExitResourceTitleString}
+use Rattle.machine.specs.OnMedia.{onExitMedia}
+use Rattle.machine.specs.OnDefinition.{onEnterDefinition, onExitDefinitionLabelString, onEnterDefinitionDestinationString, onExitDefinitionDestinationString, onExitDefinitionTitleString, onExitDefinition}
 use Rattle.machine.specs.OnFootnote.{onEnterGfmFootnoteCall, onExitGfmFootnoteCall, onEnterGfmFootnoteDefinition, onExitGfmFootnoteDefinitionLabelString, onExitGfmFootnoteDefinitionPrefix, onExitGfmFootnoteDefinition}
 use Rattle.machine.specs.Handlers.{rows, commandOf, handle}
 use Rattle.machine.specs.Totals.{captured, held, kept, over}

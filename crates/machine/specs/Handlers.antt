@@ -7,11 +7,17 @@ use Rattle.machine.specs.Outcome.{Outcome}
 use Rattle.machine.specs.State.{State}
 use Rattle.machine.specs.Turn.{Turn}
 use Rattle.machine.specs.Command.{Command, nothing, exec}
-use Rattle.machine.specs.OnText.{onExitData, onExitCharacterReferenceMarker, onExitCharacterReferenceMarkerNumeric, onExitCharacterReferenceMarkerHexadecimal, onExitCharacterReferenceValue, onExitLineEnding, onExitBlankLineEnding, onEnterEmphasis, onExitEmphasis, onEnterStrong, onExitStrong, onExitBreak, onEnterRawText, onExitRawText, onEnterHtmlText, onEnterHtmlFlow, onExitHtml, onExitHtmlData, onExitAutolinkEmail, onExitAutolinkProtocol}
-use Rattle.machine.specs.OnFlow.{onEnterParagraph, onExitParagraph, onEnterBlockQuote, onExitBlockQuote, onExitThematicBreak, onExitHeadingAtxSequence, onExitHeadingAtxText, onExitHeadingAtx, onExitHeadingSetextText, onExitHeadingSetextUnderlineSequence, onEnterCodeIndented, onEnterRawFlow, onExitRawFlowFence, onExitRawFlowFenceInfo, onExitRawFlowChunk, onExitRawFlow}
+use Rattle.machine.specs.OnText.{onExitData, onExitCharacterReferenceMarker, onExitCharacterReferenceMarkerNumeric, onExitCharacterReferenceMarkerHexadecimal, onExitCharacterReferenceValue, onExitLineEnding, onExitBlankLineEnding, onEnterHtmlText, onEnterHtmlFlow, onExitHtml, onExitHtmlData, onEnterBuffer, onExitDrop}
+use Rattle.machine.specs.OnInline.{onEnterEmphasis, onExitEmphasis, onEnterStrong, onExitStrong, onExitBreak, onEnterRawText, onExitRawText, onExitAutolinkEmail, onExitAutolinkProtocol}
+use Rattle.machine.specs.OnFlow.{onEnterParagraph, onExitParagraph, onEnterBlockQuote, onExitBlockQuote, onExitThematicBreak, onEnterCodeIndented, onEnterRawFlow, onExitRawFlowFence, onExitRawFlowFenceInfo, onExitRawFlowChunk, onExitRawFlow}
+use Rattle.machine.specs.OnHeading.{onExitHeadingAtxSequence, onExitHeadingAtxText, onExitHeadingAtx}
+use Rattle.machine.specs.OnSetext.{onExitHeadingSetextText, onExitHeadingSetextUnderlineSequence}
 use Rattle.machine.specs.OnList.{onEnterList, onExitList, onEnterListItemMarker, onExitListItemValue, onExitListItem}
-use Rattle.machine.specs.OnTable.{onEnterGfmTable, onExitGfmTable, onEnterGfmTableHead, onExitGfmTableHead, onEnterGfmTableBody, onExitGfmTableBody, onEnterGfmTableCell, onExitGfmTableCell, onEnterGfmTableRow, onExitGfmTableRow}
-use Rattle.machine.specs.OnMedia.{onEnterBuffer, onExitDrop, onEnterLink, onEnterImage, onExitLabel, onExitLabelText, onExitReferenceString, onEnterResource, onEnterResourceDestinationString, onExitResourceDestinationString, onExitResourceTitleString, onExitMedia, onEnterDefinition, onExitDefinitionLabelString, onEnterDefinitionDestinationString, onExitDefinitionDestinationString, onExitDefinitionTitleString, onExitDefinition}
+use Rattle.machine.specs.OnTable.{onEnterGfmTable, onExitGfmTable, onEnterGfmTableHead, onExitGfmTableHead, onEnterGfmTableBody, onExitGfmTableBody}
+use Rattle.machine.specs.OnCell.{onEnterGfmTableCell, onExitGfmTableCell, onEnterGfmTableRow, onExitGfmTableRow}
+use Rattle.machine.specs.OnLink.{onEnterLink, onEnterImage, onExitLabel, onExitLabelText, onExitReferenceString, onEnterResource, onEnterResourceDestinationString, onExitResourceDestinationString, onExitResourceTitleString}
+use Rattle.machine.specs.OnMedia.{onExitMedia}
+use Rattle.machine.specs.OnDefinition.{onEnterDefinition, onExitDefinitionLabelString, onEnterDefinitionDestinationString, onExitDefinitionDestinationString, onExitDefinitionTitleString, onExitDefinition}
 use Rattle.machine.specs.OnFootnote.{onEnterGfmFootnoteCall, onExitGfmFootnoteCall, onEnterGfmFootnoteDefinition, onExitGfmFootnoteDefinitionLabelString, onExitGfmFootnoteDefinitionPrefix, onExitGfmFootnoteDefinition}
 
 -- what happens at the enter and at the exit of a name

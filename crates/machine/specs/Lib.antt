@@ -11,10 +11,16 @@ pub mod Test
 pub mod Command
 pub mod Words
 pub mod OnText
+pub mod OnInline
 pub mod OnFlow
+pub mod OnHeading
+pub mod OnSetext
 pub mod OnList
 pub mod OnTable
+pub mod OnCell
 pub mod OnMedia
+pub mod OnLink
+pub mod OnDefinition
 pub mod OnFootnote
 pub mod Handlers
 pub mod Totals

@@ -1,10 +1,10 @@
--- Handlers of paragraphs, quotes, headings and code blocks. Assumes nothing.
+-- Handlers of paragraphs, quotes and code blocks. Assumes nothing.
 use mathlib.Core.Bool.{true, false}
 use mathlib.Core.Option.{none, some}
 use Rattle.machine.specs.Set.{slurp}
-use Rattle.machine.specs.Test.{isTight, isInContainer, hasRank, hasSeenData, isFirstFence, isFencedOnce, isFenceMissing, isUnderlinedByDashes, isBehindFence}
+use Rattle.machine.specs.Test.{isTight, isInContainer, hasSeenData, isFirstFence, isFencedOnce, isFenceMissing, isBehindFence}
 use Rattle.machine.specs.Command.{Command, _▸_, whether}
-use Rattle.machine.specs.Words.{when, unless, put, chunk, rank, lineEnding, lineEndingIfNeeded, resume, hold, release, set, tighten, loosen, keepRank, forgetRank, seenData, fences, countFence}
+use Rattle.machine.specs.Words.{when, unless, put, chunk, lineEnding, lineEndingIfNeeded, resume, set, tighten, loosen, seenData, fences, countFence}
 
 -- ---- paragraphs, quotes, thematic breaks
 
@@ -22,27 +22,6 @@ onExitBlockQuote = loosen ▸ lineEndingIfNeeded ▸ set slurp false ▸ put "</
 
 unfoldable pub onExitThematicBreak : Command
 onExitThematicBreak = lineEndingIfNeeded ▸ put "<hr />"
-
--- ---- headings
-
--- the first sequence gives the rank
-unfoldable pub onExitHeadingAtxSequence : Command
-onExitHeadingAtxSequence = unless hasRank (lineEndingIfNeeded ▸ keepRank ▸ put "<h" ▸ rank ▸ put ">")
-
-unfoldable pub onExitHeadingAtxText : Command
-onExitHeadingAtxText = resume "" ""
-
-unfoldable pub onExitHeadingAtx : Command
-onExitHeadingAtx = put "</h" ▸ rank ▸ put ">" ▸ forgetRank
-
-unfoldable pub onExitHeadingSetextText : Command
-onExitHeadingSetextText = hold ▸ set slurp true
-
-unfoldable pub setextRank : Command
-setextRank = whether isUnderlinedByDashes (put "2") (put "1")
-
-unfoldable pub onExitHeadingSetextUnderlineSequence : Command
-onExitHeadingSetextUnderlineSequence = lineEndingIfNeeded ▸ put "<h" ▸ setextRank ▸ put ">" ▸ release ▸ put "</h" ▸ setextRank ▸ put ">"
 
 -- ---- code blocks
 

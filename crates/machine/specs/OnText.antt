@@ -1,11 +1,10 @@
--- Handlers of data, references, line endings and what stands in a line. Assumes nothing.
+-- Handlers of data, references, line endings, HTML and captures. Assumes nothing.
 use mathlib.Core.Bool.{true, false}
-use Prim.Native.String.{String}
 use Rattle.character_reference.specs.declared.Marker.the-variants.{Named, Decimal, Hexadecimal}
-use Rattle.machine.specs.Set.{slurp, encode, raw, alt}
+use Rattle.machine.specs.Set.{slurp, encode, raw}
 use Rattle.machine.specs.Test.{is, isLast, isHtmlAllowed, isBehindDefinition}
 use Rattle.machine.specs.Command.{Command, _▸_, whether}
-use Rattle.machine.specs.Words.{when, unless, tag, put, slice, reference, url, lineEndingIfNeeded, buffer, resumeCode, set, marker}
+use Rattle.machine.specs.Words.{when, put, slice, reference, lineEndingIfNeeded, buffer, set, marker, drop}
 
 unfoldable pub onExitData : Command
 onExitData = slice
@@ -33,31 +32,6 @@ onExitLineEnding = whether (is raw) (put " ") (whether (is slurp) (set slurp fal
 unfoldable pub onExitBlankLineEnding : Command
 onExitBlankLineEnding = set slurp false ▸ when isLast lineEndingIfNeeded
 
--- ---- emphasis, strong, breaks
-
-unfoldable pub onEnterEmphasis : Command
-onEnterEmphasis = tag "<em>"
-
-unfoldable pub onExitEmphasis : Command
-onExitEmphasis = tag "</em>"
-
-unfoldable pub onEnterStrong : Command
-onEnterStrong = tag "<strong>"
-
-unfoldable pub onExitStrong : Command
-onExitStrong = tag "</strong>"
-
-unfoldable pub onExitBreak : Command
-onExitBreak = tag "<br />"
-
--- ---- code text
-
-unfoldable pub onEnterRawText : Command
-onEnterRawText = set raw true ▸ tag "<code>" ▸ buffer
-
-unfoldable pub onExitRawText : Command
-onExitRawText = resumeCode ▸ set raw false ▸ tag "</code>"
-
 -- ---- html
 
 unfoldable pub onEnterHtmlText : Command
@@ -72,13 +46,10 @@ onExitHtml = set encode true
 unfoldable pub onExitHtmlData : Command
 onExitHtmlData = slice
 
--- ---- autolinks
+-- ---- captures
 
-unfoldable pub generateAutolink : String → Command
-generateAutolink scheme = unless (is alt) (put "<a href=\"" ▸ url scheme ▸ put "\">") ▸ slice ▸ tag "</a>"
+unfoldable pub onEnterBuffer : Command
+onEnterBuffer = buffer
 
-unfoldable pub onExitAutolinkEmail : Command
-onExitAutolinkEmail = generateAutolink "mailto:"
-
-unfoldable pub onExitAutolinkProtocol : Command
-onExitAutolinkProtocol = generateAutolink ""
+unfoldable pub onExitDrop : Command
+onExitDrop = drop

@@ -27,7 +27,7 @@ use Rattle.machine.specs.State.{State, Span, Destination, noDestination, own, d
 use Rattle.machine.specs.Turn.{Turn, strOf}
 use Rattle.machine.specs.Media.{definitionLabels, labelOf, definedAt, destinationOf}
 use Rattle.machine.specs.Handlers.{rows}
-use Rattle.machine.specs.OnMedia.{onEnterLink, onEnterImage}
+use Rattle.machine.specs.OnLink.{onEnterLink, onEnterImage}
 use Rattle.machine.specs.OnFootnote.{onEnterGfmFootnoteCall}
 use Rattle.machine_shape.specs.Grown.{Kinds}
 use Rattle.machine_shape.specs.Pass.{behind}

@@ -26,7 +26,7 @@ use Rattle.machine.specs.Turn.{Turn, spanOf}
 use Rattle.machine.specs.Media.{definitionLabels}
 use Rattle.machine.specs.Command.{exec}
 use Rattle.machine.specs.Handlers.{rows, commandOf}
-use Rattle.machine.specs.OnMedia.{onEnterDefinition, onExitDefinition}
+use Rattle.machine.specs.OnDefinition.{onEnterDefinition, onExitDefinition}
 use Rattle.machine_clean.proofs.Within.{within-exec}
 use Rattle.machine_shape.specs.Kinds.{rowOf}
 use Rattle.machine_shape.specs.Grown.{Kinds}

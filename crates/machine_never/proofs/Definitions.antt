@@ -23,7 +23,7 @@ use Rattle.machine.specs.Media.{define}
 use Rattle.machine.specs.Words as C
 use Rattle.machine.specs.Command.{exec}
 use Rattle.machine.specs.Handlers.{rows}
-use Rattle.machine.specs.OnMedia.{onExitDefinition}
+use Rattle.machine.specs.OnDefinition.{onExitDefinition}
 use Rattle.machine_shape.specs.Kinds.{rowOf, below}
 use Rattle.machine_shape.specs.Grown.{Element, thin, thick}
 use Rattle.machine_shape.specs.Pass.{placed, behind, turnAt}

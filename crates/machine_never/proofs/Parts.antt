@@ -20,7 +20,9 @@ use Rattle.machine_never.specs.Ghost.{effectsAt, idsRun, idsOver, Top, t
 use Rattle.machine.specs.State.{Span}
 use Rattle.machine.specs.Turn.{spanOf}
 use Rattle.machine.specs.Handlers.{rows}
-use Rattle.machine.specs.OnMedia.{onEnterBuffer, onExitLabel, onExitLabelText, onEnterResource, onExitDrop, onEnterResourceDestinationString, onExitResourceDestinationString, onExitResourceTitleString, onExitReferenceString, onExitDefinitionLabelString, onEnterDefinitionDestinationString, onExitDefinitionDestinationString, onExitDefinitionTitleString}
+use Rattle.machine.specs.OnText.{onEnterBuffer, onExitDrop}
+use Rattle.machine.specs.OnLink.{onExitLabel, onExitLabelText, onEnterResource, onEnterResourceDestinationString, onExitResourceDestinationString, onExitResourceTitleString, onExitReferenceString}
+use Rattle.machine.specs.OnDefinition.{onExitDefinitionLabelString, onEnterDefinitionDestinationString, onExitDefinitionDestinationString, onExitDefinitionTitleString}
 use Rattle.machine_never.proofs.Inert.{enterEffects, exitEffects, enter-effects, exit-effects, inert, all-same}
 use Rattle.machine_never.proofs.Tops.{child-tops, ids-tops, kinds-tops, takes-one, takes-opt, takes-none, only, one-of-two}
 

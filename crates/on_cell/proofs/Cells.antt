@@ -14,7 +14,7 @@ use Rattle.machine.specs.Turn.{Turn}
 use Rattle.machine.specs.Test.{Test, isPastColumns, test}
 use Rattle.machine.specs.Command.{Command, _▸_, whether, missingCells, repeat, exec}
 use Rattle.machine.specs.Words.{put, alignment, lineEndingIfNeeded, nextColumn, buffer, drop}
-use Rattle.machine.specs.OnTable.{onEnterGfmTableCell, onExitGfmTableCell}
+use Rattle.machine.specs.OnCell.{onEnterGfmTableCell, onExitGfmTableCell}
 use Rattle.machine.proofs.Outcomes.{first-goes, need-goes}
 use Rattle.machine_bounded.specs.Within.{within}
 use Rattle.machine_bounded.proofs.Bounds.{done}

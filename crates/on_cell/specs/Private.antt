@@ -10,7 +10,7 @@ use Rattle.machine.specs.Turn.{Turn}
 use Rattle.machine.specs.Test.{is, isPastColumns, test}
 use Rattle.machine.specs.Command.{Command, _▸_, whether}
 use Rattle.machine.specs.Words.{put, alignment, lineEndingIfNeeded}
-use Rattle.machine.specs.OnTable.{onEnterGfmTableCell, onExitGfmTableCell}
+use Rattle.machine.specs.OnCell.{onEnterGfmTableCell, onExitGfmTableCell}
 use Rattle.machine_bounded.specs.Within.{within}
 use Rattle.state_context.specs.declared.Context.{Context}
 use Rattle.state_context.specs.Rel.{Rel}

@@ -1,5 +1,5 @@
 // Handlers of the rows and cells of a table, by their Rust names.
-ghost use Rattle.machine.specs.OnTable.{onEnterGfmTableCell, onExitGfmTableCell, onEnterGfmTableRow, onExitGfmTableRow};
+ghost use Rattle.machine.specs.OnCell.{onEnterGfmTableCell, onExitGfmTableCell, onEnterGfmTableRow, onExitGfmTableRow};
 ghost use Rattle.machine.specs.Command.{_▸_, missingCells};
 ghost use Rattle.machine.specs.Words.{put};
 ghost use Rattle.state_context.specs.Rel.{Any, Keeps, Opens, Takes};

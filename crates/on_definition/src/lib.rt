@@ -1,9 +1,9 @@
 // Definitions: kept where one ends, and sought where a link or an image ends.
 ghost use mathlib.Core.Path.{_≡_};
-ghost use Prim.Native.Nat.{suc, min, _+_};
-ghost use Rattle.machine.specs.Words.{seekDefinition, keepDefinition};
-ghost use Rattle.machine.specs.OnMedia.{onExitDefinition};
-ghost use Rattle.state_whole.specs.Whole.{Held, Roomy};
+ghost use Prim.Native.Nat.{min, _+_, _-_};
+ghost use Rattle.machine.specs.Words.{seekDefinition};
+ghost use Rattle.machine.specs.OnDefinition.{onExitDefinition, onEnterDefinition, onExitDefinitionLabelString, onExitDefinitionDestinationString, onExitDefinitionTitleString};
+ghost use Rattle.state_whole.specs.Whole.{Roomy, Always, FromStarts, OnStarts, OnWork};
 ghost use Rattle.on_definition.specs.Definitions.{Known, FromDefinitions, OnDefinitions};
 ghost use Rattle.on_definition.specs.Private.{soughtOf, ownPiece, textPiece, wordOf, SeeksAt, SeeksLabel, KeepsAt, KeepsNewest};
 use normalize_identifier::Found;
@@ -14,6 +14,37 @@ use state_media::Piece;
 use state_media::Span;
 use state_media::Text;
 use state_whole::Whole;
+ghost use mathlib.Core.Bool.{false};
+ghost use Rattle.state_context.specs.Rel.{Any};
+ghost use Rattle.on_link.specs.Links.{Handled};
+use event::Event;
+
+pub fn on_enter_definition(b: Whole, starts: &mut [usize]) -> Whole
+    ensures { λ r. ⌜ OnStarts Always Any onEnterDefinition b (now (starts .entry)) r (now (starts .exit)) ⌝ }
+{
+    let mut r = b;
+    r.context = state_context::open(b.context, starts);
+    r.links = state_media::open_media(b.links, false);
+    r
+}
+
+pub fn on_exit_definition_label_string(b: Whole, e: Event, starts: &[usize]) -> Whole
+    ensures { λ r. ⌜ FromStarts Roomy (Handled e) onExitDefinitionLabelString b (now (starts .entry)) r ⌝ }
+{
+    on_link::identify_reference(b, e, starts)
+}
+
+pub fn on_exit_definition_destination_string(b: Whole, work: &mut [u8], starts: &[usize]) -> Whole
+    ensures { λ r. ⌜ OnWork Roomy Any onExitDefinitionDestinationString b (now (work .entry)) (now (starts .entry)) r (now (work .exit)) ⌝ }
+{
+    on_link::store_destination(b, work, starts)
+}
+
+pub fn on_exit_definition_title_string(b: Whole, work: &mut [u8], starts: &[usize]) -> Whole
+    ensures { λ r. ⌜ OnWork Roomy Any onExitDefinitionTitleString b (now (work .entry)) (now (starts .entry)) r (now (work .exit)) ⌝ }
+{
+    on_link::store_title(b, work, starts)
+}
 
 // ---- sought
 

@@ -1,11 +1,12 @@
 // Handlers of blocks, by their Rust names.
-ghost use Rattle.machine.specs.OnFlow.{onEnterParagraph, onExitParagraph, onEnterBlockQuote, onExitBlockQuote, onExitThematicBreak, onEnterCodeIndented, onEnterRawFlow, onExitRawFlowFence, onExitRawFlowFenceInfo, onExitRawFlow, onExitHeadingAtxText};
+ghost use Rattle.machine.specs.OnFlow.{onEnterParagraph, onExitParagraph, onEnterBlockQuote, onExitBlockQuote, onExitThematicBreak, onEnterCodeIndented, onEnterRawFlow, onExitRawFlowFence, onExitRawFlowFenceInfo, onExitRawFlow, onExitRawFlowChunk};
 ghost use mathlib.Core.Bool.{true};
 ghost use Rattle.machine.specs.Set.{slurp};
 ghost use Rattle.machine.specs.Test.{isFirstFence, isFencedOnce, isInContainer, isBehindFence, hasSeenData, isFenceMissing};
 ghost use Rattle.machine.specs.Command.{_▸_};
-ghost use Rattle.machine.specs.Words.{when, unless, put, set, lineEnding, lineEndingIfNeeded};
-ghost use Rattle.state_context.specs.Rel.{Any, Keeps, Takes, FenceBefore};
+ghost use Rattle.machine.specs.Words.{when, unless, put, set, lineEnding, lineEndingIfNeeded, chunk};
+ghost use Rattle.state_context.specs.Rel.{Any, Keeps, Takes, FenceBefore, Sees};
+use event::Event;
 use state_context::Answer;
 use state_context::Context;
 
@@ -161,15 +162,43 @@ pub fn on_exit_raw_flow_fence_info(
     r
 }
 
-pub fn on_exit_heading_atx_text(
+// The event's slice between its virtual spaces, encoded where the flag says so.
+fn push_chunk(c: Context, text: &[u8], e: Event, captures: &mut [u8], out: &mut [u8]) -> Context
+    ensures { λ r. ⌜ Keeps (Sees (now (text .entry)) e) chunk c (now (captures .entry)) (now (out .entry)) r (now (captures .exit)) (now (out .exit)) ⌝ }
+{
+    let from = e.from.0;
+    let to = e.to.0;
+    if to < from {
+        return c;
+    }
+    if text.len() < to {
+        return c;
+    }
+    let mut r = c;
+    let encoding = state_context::encodes(c);
+    let before = e.before;
+    let after = e.after;
+    r.buffers = write_pieces::push_padded(
+        c.buffers,
+        captures,
+        out,
+        before,
+        &text[from..to],
+        after,
+        encoding,
+    );
+    r
+}
+
+pub fn on_exit_raw_flow_chunk(
     c: Context,
+    text: &[u8],
+    e: Event,
     captures: &mut [u8],
-    starts: &[usize],
     out: &mut [u8],
 ) -> Context
-    ensures { λ r. ⌜ Takes Any onExitHeadingAtxText c (now (captures .entry)) (now (starts .entry)) (now (out .entry)) r (now (captures .exit)) (now (out .exit)) ⌝ }
+    ensures { λ r. ⌜ Keeps (Sees (now (text .entry)) e) onExitRawFlowChunk c (now (captures .entry)) (now (out .entry)) r (now (captures .exit)) (now (out .exit)) ⌝ }
 {
-    let mut r = c;
-    r.buffers = state_resume::resume(c.buffers, captures, starts, out, b"", b"");
-    r
+    let r = state_context::set_seen(c, Answer::Yes);
+    push_chunk(r, text, e, captures, out)
 }

@@ -1,12 +1,13 @@
 // Handlers of footnotes, by their Rust names.
-ghost use Rattle.machine.specs.OnFootnote.{onEnterGfmFootnoteCall, onExitGfmFootnoteCall, onExitGfmFootnoteDefinitionLabelString, onExitGfmFootnoteDefinition};
+ghost use Rattle.machine.specs.OnFootnote.{onEnterGfmFootnoteCall, onExitGfmFootnoteCall, onExitGfmFootnoteDefinitionLabelString, onExitGfmFootnoteDefinition, onEnterGfmFootnoteDefinition, onExitGfmFootnoteDefinitionPrefix};
 ghost use Rattle.machine.specs.Words.{keepFootnote};
-ghost use Rattle.state_context.specs.Rel.{Any};
+ghost use Rattle.state_context.specs.Rel.{Any, Sets, Renews};
 ghost use Rattle.state_whole.specs.Whole.{Always, Held, Roomy, Unlent};
 ghost use Rattle.on_footnote.specs.Footnotes.{IsEvent, OnLabels, OnFootnotes, OnCalls};
 ghost use Rattle.on_footnote.specs.Private.{CallsLabel, WritesCall};
 use event::Event;
 use state_buffers::Buffers;
+use state_context::Context;
 use state_media::Label;
 use state_media::Span;
 use state_whole::Whole;
@@ -37,6 +38,12 @@ pub fn on_exit_gfm_footnote_call(
         Label::Unset => b,
         Label::Is(p) => call_label(b, p, text, work, out, calls),
     }
+}
+
+pub fn on_enter_gfm_footnote_definition(c: Context) -> Context
+    ensures { λ r. ⌜ Sets onEnterGfmFootnoteDefinition c r ⌝ }
+{
+    state_context::tighten(c, false)
 }
 
 // A label is called: counted in an image's text too, but not written there.
@@ -108,6 +115,14 @@ pub fn on_exit_gfm_footnote_definition_label_string(
     let mut r = b;
     r.kept = state_kept::open_label(b.kept, e.from.0, e.to.0, labels);
     r
+}
+
+// Of a footnote definition: the prefix is dropped; everything until the end of the definition is captured.
+pub fn on_exit_gfm_footnote_definition_prefix(c: Context, starts: &mut [usize]) -> Context
+    ensures { λ r. ⌜ Renews onExitGfmFootnoteDefinitionPrefix c (now (starts .entry)) r (now (starts .exit)) ⌝ }
+{
+    let r = state_context::drop(c, starts);
+    state_context::open(r, starts)
 }
 
 pub fn on_exit_gfm_footnote_definition(

@@ -1,9 +1,8 @@
 // Handlers of atx headings and of lines of code, by their Rust names.
-ghost use Rattle.machine.specs.Words.{chunk, rank, keepRank};
-ghost use Rattle.machine.specs.OnFlow.{onExitHeadingAtxSequence, onExitHeadingAtx, onExitRawFlowChunk};
-ghost use Rattle.state_context.specs.Rel.{Any, Sees, Keeps, SetsFor};
+ghost use Rattle.machine.specs.Words.{rank, keepRank};
+ghost use Rattle.machine.specs.OnHeading.{onExitHeadingAtxSequence, onExitHeadingAtx, onExitHeadingAtxText};
+ghost use Rattle.state_context.specs.Rel.{Any, Sees, Keeps, SetsFor, Takes};
 use event::Event;
-use state_context::Answer;
 use state_context::Context;
 use state_context::Number;
 
@@ -57,6 +56,19 @@ pub fn on_exit_heading_atx_sequence(
     state_context::push(r, captures, out, b">")
 }
 
+pub fn on_exit_heading_atx_text(
+    c: Context,
+    captures: &mut [u8],
+    starts: &[usize],
+    out: &mut [u8],
+) -> Context
+    ensures { λ r. ⌜ Takes Any onExitHeadingAtxText c (now (captures .entry)) (now (starts .entry)) (now (out .entry)) r (now (captures .exit)) (now (out .exit)) ⌝ }
+{
+    let mut r = c;
+    r.buffers = state_resume::resume(c.buffers, captures, starts, out, b"", b"");
+    r
+}
+
 pub fn on_exit_heading_atx(c: Context, captures: &mut [u8], out: &mut [u8]) -> Context
     ensures { λ r. ⌜ Keeps Any onExitHeadingAtx c (now (captures .entry)) (now (out .entry)) r (now (captures .exit)) (now (out .exit)) ⌝ }
 {
@@ -67,44 +79,3 @@ pub fn on_exit_heading_atx(c: Context, captures: &mut [u8], out: &mut [u8]) -> C
 }
 
 // ---- code
-
-// The event's slice between its virtual spaces, encoded where the flag says so.
-fn push_chunk(c: Context, text: &[u8], e: Event, captures: &mut [u8], out: &mut [u8]) -> Context
-    ensures { λ r. ⌜ Keeps (Sees (now (text .entry)) e) chunk c (now (captures .entry)) (now (out .entry)) r (now (captures .exit)) (now (out .exit)) ⌝ }
-{
-    let from = e.from.0;
-    let to = e.to.0;
-    if to < from {
-        return c;
-    }
-    if text.len() < to {
-        return c;
-    }
-    let mut r = c;
-    let encoding = state_context::encodes(c);
-    let before = e.before;
-    let after = e.after;
-    r.buffers = write_pieces::push_padded(
-        c.buffers,
-        captures,
-        out,
-        before,
-        &text[from..to],
-        after,
-        encoding,
-    );
-    r
-}
-
-pub fn on_exit_raw_flow_chunk(
-    c: Context,
-    text: &[u8],
-    e: Event,
-    captures: &mut [u8],
-    out: &mut [u8],
-) -> Context
-    ensures { λ r. ⌜ Keeps (Sees (now (text .entry)) e) onExitRawFlowChunk c (now (captures .entry)) (now (out .entry)) r (now (captures .exit)) (now (out .exit)) ⌝ }
-{
-    let r = state_context::set_seen(c, Answer::Yes);
-    push_chunk(r, text, e, captures, out)
-}

@@ -1,4 +1,3 @@
 pub mod Own
-pub mod References
 pub mod CodeText
 pub mod Autolinks

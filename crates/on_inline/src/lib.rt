@@ -3,52 +3,57 @@ ghost use Rattle.machine.specs.Set.{alt};
 ghost use Rattle.machine.specs.Test.{is};
 ghost use Rattle.machine.specs.Command.{_▸_};
 ghost use Rattle.machine.specs.Words.{unless, put, slice, tag, url, resumeCode};
-ghost use Rattle.machine.specs.OnText.{onExitCharacterReferenceValue, onExitRawText, onExitAutolinkEmail, onExitAutolinkProtocol};
-ghost use Rattle.state_context.specs.Rel.{Any, Sees, Keeps, Takes};
+ghost use Rattle.machine.specs.OnInline.{onExitRawText, onExitAutolinkEmail, onExitAutolinkProtocol, onEnterEmphasis, onExitEmphasis, onEnterStrong, onExitStrong, onExitBreak, onEnterRawText};
+ghost use Rattle.state_context.specs.Rel.{Any, Sees, Keeps, Takes, Opens};
 ghost use Rattle.on_inline.specs.View.{SeesWith};
 use event::Event;
 use machine::Options;
 use state_context::Context;
-use state_context::Mark;
 
-// ---- character references
+pub fn on_enter_emphasis(c: Context, captures: &mut [u8], out: &mut [u8]) -> Context
+    ensures { λ r. ⌜ Keeps Any onEnterEmphasis c (now (captures .entry)) (now (out .entry)) r (now (captures .exit)) (now (out .exit)) ⌝ }
+{
+    state_context::push_tag(c, captures, out, b"<em>")
+}
 
-// By the marker that waits, which is taken.
-pub fn on_exit_character_reference_value(
+pub fn on_exit_emphasis(c: Context, captures: &mut [u8], out: &mut [u8]) -> Context
+    ensures { λ r. ⌜ Keeps Any onExitEmphasis c (now (captures .entry)) (now (out .entry)) r (now (captures .exit)) (now (out .exit)) ⌝ }
+{
+    state_context::push_tag(c, captures, out, b"</em>")
+}
+
+pub fn on_enter_strong(c: Context, captures: &mut [u8], out: &mut [u8]) -> Context
+    ensures { λ r. ⌜ Keeps Any onEnterStrong c (now (captures .entry)) (now (out .entry)) r (now (captures .exit)) (now (out .exit)) ⌝ }
+{
+    state_context::push_tag(c, captures, out, b"<strong>")
+}
+
+pub fn on_exit_strong(c: Context, captures: &mut [u8], out: &mut [u8]) -> Context
+    ensures { λ r. ⌜ Keeps Any onExitStrong c (now (captures .entry)) (now (out .entry)) r (now (captures .exit)) (now (out .exit)) ⌝ }
+{
+    state_context::push_tag(c, captures, out, b"</strong>")
+}
+
+pub fn on_exit_break(c: Context, captures: &mut [u8], out: &mut [u8]) -> Context
+    ensures { λ r. ⌜ Keeps Any onExitBreak c (now (captures .entry)) (now (out .entry)) r (now (captures .exit)) (now (out .exit)) ⌝ }
+{
+    state_context::push_tag(c, captures, out, b"<br />")
+}
+
+pub fn on_enter_raw_text(
     c: Context,
-    text: &[u8],
-    e: Event,
     captures: &mut [u8],
+    starts: &mut [usize],
     out: &mut [u8],
 ) -> Context
-    ensures { λ r. ⌜ Keeps (Sees (now (text .entry)) e) onExitCharacterReferenceValue c (now (captures .entry)) (now (out .entry)) r (now (captures .exit)) (now (out .exit)) ⌝ }
+    ensures { λ r. ⌜ Opens Any onEnterRawText c (now (captures .entry)) (now (starts .entry)) (now (out .entry)) r (now (captures .exit)) (now (starts .exit)) (now (out .exit)) ⌝ }
 {
-    let from = e.from.0;
-    let to = e.to.0;
-    if to < from {
-        return c;
-    }
-    if text.len() < to {
-        return c;
-    }
-    let x = state_context::waiting_marker(c);
-    let Mark::Is(m) = x else {
-        return c;
-    };
-    let names = state_context::names_in(c);
-    let mut r = state_context::forget_marker(c);
-    let encoding = state_context::encodes(c);
-    r.buffers = write_pieces::push_reference(
-        r.buffers,
-        captures,
-        out,
-        names,
-        m,
-        &text[from..to],
-        encoding,
-    );
-    r
+    let raw = state_context::set_raw(c, true);
+    let r = state_context::push_tag(raw, captures, out, b"<code>");
+    state_context::open(r, starts)
 }
+
+// ---- character references
 
 // ---- code text
 

@@ -5,10 +5,10 @@ ghost use Prim.Native.Nat.{_-_};
 ghost use Rattle.machine.specs.Set.{encode};
 ghost use Rattle.machine.specs.Media.{destination, referenceId};
 ghost use Rattle.machine.specs.Command.{_▸_};
-ghost use Rattle.machine.specs.Words.{buffer, drop, set, store, identify};
-ghost use Rattle.machine.specs.OnMedia.{onEnterLink, onEnterImage, onExitLabel, onExitLabelText, onExitReferenceString, onEnterResource, onExitResourceDestinationString, onExitResourceTitleString, onEnterDefinition, onExitDefinitionLabelString, onExitDefinitionDestinationString, onExitDefinitionTitleString};
+ghost use Rattle.machine.specs.Words.{drop, set, store, identify};
+ghost use Rattle.machine.specs.OnLink.{onEnterLink, onEnterImage, onExitLabel, onExitLabelText, onExitReferenceString, onEnterResource, onExitResourceDestinationString, onExitResourceTitleString, onEnterResourceDestinationString};
 ghost use Rattle.machine.specs.Media as M;
-ghost use Rattle.state_context.specs.Rel.{Any};
+ghost use Rattle.state_context.specs.Rel.{Any, Begins};
 ghost use Rattle.state_whole.specs.Whole.{Always, Roomy, Unlent, FromStarts, OnStarts, OnWork};
 ghost use Rattle.on_link.specs.Links.{Handled};
 use event::Event;
@@ -73,7 +73,7 @@ pub fn on_exit_label_text(b: Whole, e: Event) -> Whole
 }
 
 // The label is taken from the text, not as captured.
-fn identify_reference(b: Whole, e: Event, starts: &[usize]) -> Whole
+pub fn identify_reference(b: Whole, e: Event, starts: &[usize]) -> Whole
     ensures { λ r. ⌜ FromStarts Roomy (Handled e) (drop ▸ identify referenceId) b (now (starts .entry)) r ⌝ }
 {
     let mut r = b;
@@ -103,7 +103,15 @@ pub fn on_enter_resource(b: Whole, starts: &mut [usize]) -> Whole
     r
 }
 
-fn store_destination(b: Whole, work: &mut [u8], starts: &[usize]) -> Whole
+// A resource's destination or a definition's: a URL is encoded later.
+pub fn on_enter_destination_string(c: Context, starts: &mut [usize]) -> Context
+    ensures { λ r. ⌜ Begins onEnterResourceDestinationString c (now (starts .entry)) r (now (starts .exit)) ⌝ }
+{
+    let r = state_context::open(c, starts);
+    state_context::set_encode(r, false)
+}
+
+pub fn store_destination(b: Whole, work: &mut [u8], starts: &[usize]) -> Whole
     ensures { λ r. ⌜ OnWork Roomy Any (store destination ▸ set encode true) b (now (work .entry)) (now (starts .entry)) r (now (work .exit)) ⌝ }
 {
     let mut r = b;
@@ -116,7 +124,7 @@ fn store_destination(b: Whole, work: &mut [u8], starts: &[usize]) -> Whole
     r
 }
 
-fn store_title(b: Whole, work: &mut [u8], starts: &[usize]) -> Whole
+pub fn store_title(b: Whole, work: &mut [u8], starts: &[usize]) -> Whole
     ensures { λ r. ⌜ OnWork Roomy Any (store M.title) b (now (work .entry)) (now (starts .entry)) r (now (work .exit)) ⌝ }
 {
     let mut r = b;
@@ -142,30 +150,3 @@ pub fn on_exit_resource_title_string(b: Whole, work: &mut [u8], starts: &[usize]
 }
 
 // ---- definitions
-
-pub fn on_enter_definition(b: Whole, starts: &mut [usize]) -> Whole
-    ensures { λ r. ⌜ OnStarts Always Any onEnterDefinition b (now (starts .entry)) r (now (starts .exit)) ⌝ }
-{
-    let mut r = b;
-    r.context = state_context::open(b.context, starts);
-    r.links = state_media::open_media(b.links, false);
-    r
-}
-
-pub fn on_exit_definition_label_string(b: Whole, e: Event, starts: &[usize]) -> Whole
-    ensures { λ r. ⌜ FromStarts Roomy (Handled e) onExitDefinitionLabelString b (now (starts .entry)) r ⌝ }
-{
-    identify_reference(b, e, starts)
-}
-
-pub fn on_exit_definition_destination_string(b: Whole, work: &mut [u8], starts: &[usize]) -> Whole
-    ensures { λ r. ⌜ OnWork Roomy Any onExitDefinitionDestinationString b (now (work .entry)) (now (starts .entry)) r (now (work .exit)) ⌝ }
-{
-    store_destination(b, work, starts)
-}
-
-pub fn on_exit_definition_title_string(b: Whole, work: &mut [u8], starts: &[usize]) -> Whole
-    ensures { λ r. ⌜ OnWork Roomy Any onExitDefinitionTitleString b (now (work .entry)) (now (starts .entry)) r (now (work .exit)) ⌝ }
-{
-    store_title(b, work, starts)
-}

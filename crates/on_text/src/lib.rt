@@ -1,40 +1,11 @@
 // Handlers of what stands in a line, by their Rust names.
-ghost use Rattle.machine.specs.OnText.{onEnterEmphasis, onExitEmphasis, onEnterStrong, onExitStrong, onExitBreak, onExitHtml, onEnterHtmlText, onEnterHtmlFlow, onExitHtmlData, onExitData, onExitCharacterReferenceMarker, onExitCharacterReferenceMarkerNumeric, onExitCharacterReferenceMarkerHexadecimal, onExitLineEnding, onExitBlankLineEnding, onEnterRawText};
-ghost use Rattle.machine.specs.OnMedia.{onEnterBuffer, onExitDrop};
-ghost use Rattle.state_context.specs.Rel.{Any, Sees, SeesEnding, HtmlAllowed, IsLast, Keeps, Opens, Begins, Ends, Sets, SetsFor};
+ghost use Rattle.machine.specs.OnText.{onExitHtml, onEnterHtmlText, onEnterHtmlFlow, onExitHtmlData, onExitData, onExitCharacterReferenceMarker, onExitCharacterReferenceMarkerNumeric, onExitCharacterReferenceMarkerHexadecimal, onExitLineEnding, onExitBlankLineEnding, onEnterBuffer, onExitDrop, onExitCharacterReferenceValue};
+ghost use Rattle.state_context.specs.Rel.{Sees, SeesEnding, HtmlAllowed, IsLast, Keeps, Begins, Ends, Sets, SetsFor};
 use character_reference::Marker;
 use event::Event;
 use state_context::Context;
-
-pub fn on_enter_emphasis(c: Context, captures: &mut [u8], out: &mut [u8]) -> Context
-    ensures { λ r. ⌜ Keeps Any onEnterEmphasis c (now (captures .entry)) (now (out .entry)) r (now (captures .exit)) (now (out .exit)) ⌝ }
-{
-    state_context::push_tag(c, captures, out, b"<em>")
-}
-
-pub fn on_exit_emphasis(c: Context, captures: &mut [u8], out: &mut [u8]) -> Context
-    ensures { λ r. ⌜ Keeps Any onExitEmphasis c (now (captures .entry)) (now (out .entry)) r (now (captures .exit)) (now (out .exit)) ⌝ }
-{
-    state_context::push_tag(c, captures, out, b"</em>")
-}
-
-pub fn on_enter_strong(c: Context, captures: &mut [u8], out: &mut [u8]) -> Context
-    ensures { λ r. ⌜ Keeps Any onEnterStrong c (now (captures .entry)) (now (out .entry)) r (now (captures .exit)) (now (out .exit)) ⌝ }
-{
-    state_context::push_tag(c, captures, out, b"<strong>")
-}
-
-pub fn on_exit_strong(c: Context, captures: &mut [u8], out: &mut [u8]) -> Context
-    ensures { λ r. ⌜ Keeps Any onExitStrong c (now (captures .entry)) (now (out .entry)) r (now (captures .exit)) (now (out .exit)) ⌝ }
-{
-    state_context::push_tag(c, captures, out, b"</strong>")
-}
-
-pub fn on_exit_break(c: Context, captures: &mut [u8], out: &mut [u8]) -> Context
-    ensures { λ r. ⌜ Keeps Any onExitBreak c (now (captures .entry)) (now (out .entry)) r (now (captures .exit)) (now (out .exit)) ⌝ }
-{
-    state_context::push_tag(c, captures, out, b"<br />")
-}
+ghost use Rattle.machine.specs.Test.{is};
+use state_context::Mark;
 
 pub fn on_exit_html(c: Context) -> Context
     ensures { λ r. ⌜ Sets onExitHtml c r ⌝ }
@@ -104,6 +75,43 @@ pub fn on_exit_character_reference_marker_hexadecimal(c: Context) -> Context
     state_context::set_marker(c, Marker::Hexadecimal)
 }
 
+// By the marker that waits, which is taken.
+pub fn on_exit_character_reference_value(
+    c: Context,
+    text: &[u8],
+    e: Event,
+    captures: &mut [u8],
+    out: &mut [u8],
+) -> Context
+    ensures { λ r. ⌜ Keeps (Sees (now (text .entry)) e) onExitCharacterReferenceValue c (now (captures .entry)) (now (out .entry)) r (now (captures .exit)) (now (out .exit)) ⌝ }
+{
+    let from = e.from.0;
+    let to = e.to.0;
+    if to < from {
+        return c;
+    }
+    if text.len() < to {
+        return c;
+    }
+    let x = state_context::waiting_marker(c);
+    let Mark::Is(m) = x else {
+        return c;
+    };
+    let names = state_context::names_in(c);
+    let mut r = state_context::forget_marker(c);
+    let encoding = state_context::encodes(c);
+    r.buffers = write_pieces::push_reference(
+        r.buffers,
+        captures,
+        out,
+        names,
+        m,
+        &text[from..to],
+        encoding,
+    );
+    r
+}
+
 // ---- line endings
 
 // One behind a definition is swallowed, as is one that a handler wants swallowed.
@@ -159,16 +167,3 @@ pub fn on_exit_drop(c: Context, starts: &[usize]) -> Context
 }
 
 // ---- code text
-
-pub fn on_enter_raw_text(
-    c: Context,
-    captures: &mut [u8],
-    starts: &mut [usize],
-    out: &mut [u8],
-) -> Context
-    ensures { λ r. ⌜ Opens Any onEnterRawText c (now (captures .entry)) (now (starts .entry)) (now (out .entry)) r (now (captures .exit)) (now (starts .exit)) (now (out .exit)) ⌝ }
-{
-    let raw = state_context::set_raw(c, true);
-    let r = state_context::push_tag(raw, captures, out, b"<code>");
-    state_context::open(r, starts)
-}

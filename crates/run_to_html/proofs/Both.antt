@@ -27,8 +27,8 @@ use Rattle.state_whole.specs.Whole.{World}
 use Rattle.dispatch_turns.specs.Passing.{turnsLeft}
 use Rattle.run_pass.specs.declared.Passed.{Passed}
 use Rattle.run_pass.specs.declared.Passed.the-variants.{On, Over}
-use Rattle.call_build_answer.specs.declared.Rendered.{Rendered}
-use Rattle.call_build_answer.specs.declared.Rendered.the-variants.{WorkFull, PageFull}
+use Rattle.run_answer.specs.declared.Rendered.{Rendered}
+use Rattle.run_answer.specs.declared.Rendered.the-variants.{WorkFull, PageFull}
 use Rattle.run_next.specs.Reach.{run, Stands}
 use Rattle.run_pass.specs.Passing.{Passes}
 use Rattle.run_to_html.specs.Renders.{Answers, Renders}

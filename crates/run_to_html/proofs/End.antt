@@ -19,8 +19,8 @@ use Rattle.state_context.specs.Rel.{fixedIn}
 use Rattle.write_section.specs.Contracts.{WritesSection}
 use Rattle.state_whole.specs.declared.Whole.{Whole}
 use Rattle.state_whole.specs.Whole.{World}
-use Rattle.call_build_answer.specs.declared.Rendered.{Rendered}
-use Rattle.call_build_answer.specs.declared.Rendered.the-variants.{Page, PageFull}
+use Rattle.run_answer.specs.declared.Rendered.{Rendered}
+use Rattle.run_answer.specs.declared.Rendered.the-variants.{Page, PageFull}
 use Rattle.run_next.specs.Reach.{Stands}
 use Rattle.run_to_html.specs.Renders.{Answers}
 use Rattle.run_to_html.specs.Private.{Last, Finishes}

@@ -23,8 +23,8 @@ use Rattle.state_whole.specs.declared.Whole.{Whole}
 use Rattle.state_whole.specs.Whole.{World, Built}
 use Rattle.dispatch_turns.specs.Passing.{turnsLeft}
 use Rattle.run_next.specs.Reach.{run, Stands}
-use Rattle.call_build_answer.specs.declared.Rendered.{Rendered}
-use Rattle.call_build_answer.specs.declared.Rendered.the-variants.{WorkFull, PageFull}
+use Rattle.run_answer.specs.declared.Rendered.{Rendered}
+use Rattle.run_answer.specs.declared.Rendered.the-variants.{WorkFull, PageFull}
 use Rattle.run_to_html.specs.Renders.{Answers}
 
 abbrev pub noMedia : Links

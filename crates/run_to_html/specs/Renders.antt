@@ -13,8 +13,8 @@ use Rattle.machine.specs.Run.{Answer, page, refused, endingOf, fixedOf, areBegu
 use Rattle.machine_bounded.specs.Within.{Goes}
 use Rattle.machine_clean.specs.Clean.{Clean}
 use Rattle.machine_clean.specs.Section.{Called}
-use Rattle.call_build_answer.specs.declared.Rendered.{Rendered}
-use Rattle.call_build_answer.specs.declared.Rendered.the-variants.{Page, WorkFull, PageFull}
+use Rattle.run_answer.specs.declared.Rendered.{Rendered}
+use Rattle.run_answer.specs.declared.Rendered.the-variants.{Page, WorkFull, PageFull}
 
 -- the machine goes through all turns within the code's tables, and each call has its footnote
 pub record Runs (text events : List ℕ) (o : Options) : Type 0 where

@@ -8,3 +8,4 @@ pub mod Constants
 pub mod Start
 pub mod Commands
 pub mod Slices
+pub mod Renewed

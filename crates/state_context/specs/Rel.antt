@@ -187,6 +187,14 @@ pub record Begins (d : Command) (c : Context) (starts : List ℕ) (r : Context) 
 pub record Ends (d : Command) (c : Context) (starts : List ℕ) (r : Context) : Type 0 where
   pub ends : (captures out : List ℕ) → Takes Any d c captures starts out r captures out
 
+-- Where the machine goes on with a command, the code goes with it: where the captures have room and the table of starts its 64 places.
+pub record Turns (View : Turn → Type 0) (d : Command) (c : Context) (captures starts out : List ℕ) (r : Context) (captures′ starts′ out′ : List ℕ) : Type 0 where
+  pub turns : (t : Turn) (s u : State) → View t → c .buffers .end ≤ length captures → length starts ≡ 64 → Rel c captures out starts s → within d t s ≡ go u → Rel r captures′ out′ starts′ u
+
+-- a capture is taken off and another opened, without a byte
+pub record Renews (d : Command) (c : Context) (starts : List ℕ) (r : Context) (starts′ : List ℕ) : Type 0 where
+  pub renews : (captures out : List ℕ) → Turns Any d c captures starts out r captures starts′ out
+
 -- a text is appended
 pub record Pushes (text : List ℕ) (c : Context) (captures out : List ℕ) (r : Context) (captures′ out′ : List ℕ) : Type 0 where
   pub pushes : (starts : List ℕ) (s : State) → Rel c captures out starts s → Rel r captures′ out′ starts (push text s)

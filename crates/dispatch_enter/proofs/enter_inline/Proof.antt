@@ -3,7 +3,8 @@ use mathlib.Core.Path.{refl}
 use mathlib.Core.List.{[], _∷_}
 use borrow.Author.Needs.{needs}
 use Rattle.machine.specs.Handlers.{rows}
-use Rattle.machine.specs.OnMedia.{onEnterLink, onEnterImage, onEnterResource, onEnterResourceDestinationString, onEnterDefinition, onEnterDefinitionDestinationString}
+use Rattle.machine.specs.OnLink.{onEnterLink, onEnterImage, onEnterResource, onEnterResourceDestinationString}
+use Rattle.machine.specs.OnDefinition.{onEnterDefinition, onEnterDefinitionDestinationString}
 use Rattle.dispatch_turns.proofs.Turns.{from-keeps, from-sets-for, seen-as}
 use Rattle.dispatch_turns.proofs.Arms.{arm, keeping, opening, beginning, rest}
 use Rattle.dispatch_enter.proofs.Laws.{html}

@@ -3,7 +3,7 @@ use mathlib.Core.Path.{refl}
 use mathlib.Core.List.{[], _∷_}
 use borrow.Author.Needs.{needs}
 use Rattle.machine.specs.Handlers.{rows}
-use Rattle.machine.specs.OnFlow.{onExitHeadingSetextText, setextRank, onExitHeadingSetextUnderlineSequence}
+use Rattle.machine.specs.OnSetext.{onExitHeadingSetextText, setextRank, onExitHeadingSetextUnderlineSequence}
 use Rattle.dispatch_turns.proofs.Arms.{keeping, seeing, taking, rest}
 use Rattle.dispatch_exit_block.proofs.Laws.{itself, ordered, unordered}
 use Rattle.dispatch_exit_block.proofs.exit_block.Statement.{statement}

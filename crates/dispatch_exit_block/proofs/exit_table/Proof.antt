@@ -3,7 +3,9 @@ use mathlib.Core.Path.{refl}
 use mathlib.Core.List.{[], _∷_}
 use borrow.Author.Needs.{needs}
 use Rattle.machine.specs.Handlers.{rows}
-use Rattle.machine.specs.OnMedia.{onExitMedia, onExitLabel, onExitLabelText, onExitResourceDestinationString, onExitResourceTitleString, onExitReferenceString, onExitDefinition, onExitDefinitionLabelString, onExitDefinitionDestinationString, onExitDefinitionTitleString}
+use Rattle.machine.specs.OnMedia.{onExitMedia}
+use Rattle.machine.specs.OnLink.{onExitLabel, onExitLabelText, onExitResourceDestinationString, onExitResourceTitleString, onExitReferenceString}
+use Rattle.machine.specs.OnDefinition.{onExitDefinition, onExitDefinitionLabelString, onExitDefinitionDestinationString, onExitDefinitionTitleString}
 use Rattle.machine.specs.OnFootnote.{onExitGfmFootnoteCall, onExitGfmFootnoteDefinition, onExitGfmFootnoteDefinitionLabelString}
 use Rattle.dispatch_exit_block.proofs.Laws.{renewing}
 use Rattle.dispatch_turns.proofs.Arms.{keeping, taking, ending, rest}

@@ -13,13 +13,13 @@ is-whole-requires : tie.Need-is-whole-requires
 is-whole-requires c κs = search needs
 
 returns : tie.Need-returns
-returns c = let at = c .before .before in whole-enter _ (at .is-enter .ensures) (omega (arith, at .before .good)) (c .before .if1 .taken) (c .is-whole .ensures)
+returns c = let at = c .before .before in whole-enter _ (at .is-enter .ensures) (omega (arith, at .before .good)) (c .before .if1 .taken) (c .enters-whole .ensures)
 
 is-whole-requires-2 : tie.Need-is-whole-requires-2
 is-whole-requires-2 c κs = search needs
 
 returns-2 : tie.Need-returns-2
-returns-2 c = let at = c .before .before in whole-exit _ (at .is-enter .ensures) (omega (arith, at .before .good)) (c .before .if1 .left) (c .is-whole2 .ensures)
+returns-2 c = let at = c .before .before in whole-exit _ (at .is-enter .ensures) (omega (arith, at .before .good)) (c .before .if1 .left) (c .exits-whole .ensures)
 
 pub is-whole-spec : {M : Type 1} → statement M
 is-whole-spec =

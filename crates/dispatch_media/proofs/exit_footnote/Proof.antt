@@ -5,7 +5,7 @@ use native.Mathlib.Omega.{arith}
 use borrow.Author.Needs.{needs}
 use Rattle.machine.specs.Handlers.{rows}
 use Rattle.dispatch_turns.proofs.Loud.{still}
-use Rattle.dispatch_media.specs.Exits.{isWhole}
+use Rattle.dispatch_media.specs.Exits.{exitsWhole}
 use Rattle.dispatch_media.proofs.Names.{quiet-exit}
 use Rattle.dispatch_media.proofs.Exits.{by-calls, by-footnotes, by-labels}
 use Rattle.dispatch_media.proofs.exit_footnote.Statement.{statement}
@@ -24,7 +24,7 @@ unfolding rows
 returns-3 c = let at = c .before .before in record { exits = λ o d. by-labels 65 (at .before .before .match .keys3) refl (at .on-exit-gfm-footnote-definition-label-string .ensures) }
 
 returns-4 : tie.Need-returns-4
-returns-4 c = record { exits = λ o d. still isWhole (λ n h. quiet-exit n (omega arith)) (65 ∷ 63 ∷ 62 ∷ []) refl (c .match .rest) }
+returns-4 c = record { exits = λ o d. still exitsWhole (λ n h. quiet-exit n (omega arith)) (65 ∷ 63 ∷ 62 ∷ []) refl (c .match .rest) }
 
 pub exit-footnote-spec : {M : Type 1} → statement M
 exit-footnote-spec =

@@ -5,7 +5,7 @@ use native.Mathlib.Omega.{arith}
 use borrow.Author.Needs.{needs}
 use Rattle.machine.specs.Handlers.{rows}
 use Rattle.dispatch_turns.proofs.Loud.{still}
-use Rattle.dispatch_media.specs.Exits.{isWhole}
+use Rattle.dispatch_media.specs.Exits.{exitsWhole}
 use Rattle.dispatch_media.proofs.Names.{quiet-exit}
 use Rattle.dispatch_media.proofs.Exits.{by-unlent, by-starts, by-work, by-media, by-definitions}
 use Rattle.dispatch_media.proofs.exit_media.Statement.{statement}
@@ -56,7 +56,7 @@ unfolding rows
 returns-11 c = let at = c .before .before in record { exits = λ f k l. by-work 56 (at .before .before .match .keys11) refl (at .on-exit-definition-title-string .ensures) }
 
 returns-12 : tie.Need-returns-12
-returns-12 c = record { exits = λ f k l. still isWhole (λ n h. quiet-exit n (omega arith)) (56 ∷ 55 ∷ 54 ∷ 53 ∷ 52 ∷ 51 ∷ 50 ∷ 48 ∷ 47 ∷ 46 ∷ 45 ∷ []) refl (c .match .rest) }
+returns-12 c = record { exits = λ f k l. still exitsWhole (λ n h. quiet-exit n (omega arith)) (56 ∷ 55 ∷ 54 ∷ 53 ∷ 52 ∷ 51 ∷ 50 ∷ 48 ∷ 47 ∷ 46 ∷ 45 ∷ []) refl (c .match .rest) }
 
 pub exit-media-spec : {M : Type 1} → statement M
 exit-media-spec =

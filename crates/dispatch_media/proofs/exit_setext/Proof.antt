@@ -5,7 +5,7 @@ use native.Mathlib.Omega.{arith}
 use borrow.Author.Needs.{needs}
 use Rattle.machine.specs.Handlers.{rows}
 use Rattle.dispatch_turns.proofs.Loud.{still}
-use Rattle.dispatch_media.specs.Exits.{isWhole}
+use Rattle.dispatch_media.specs.Exits.{exitsWhole}
 use Rattle.dispatch_media.proofs.Names.{quiet-exit}
 use Rattle.dispatch_media.proofs.Exits.{by-work, by-page}
 use Rattle.dispatch_media.proofs.exit_setext.Statement.{statement}
@@ -20,7 +20,7 @@ unfolding rows
 returns-2 c = let at = c .before .before .before .before in record { exits = λ o t. by-page 18 (at .before .before .before .match .keys2) refl (at .on-exit-heading-setext-underline-sequence .ensures) }
 
 returns-3 : tie.Need-returns-3
-returns-3 c = record { exits = λ o t. still isWhole (λ n h. quiet-exit n (omega arith)) (18 ∷ 17 ∷ []) refl (c .match .rest) }
+returns-3 c = record { exits = λ o t. still exitsWhole (λ n h. quiet-exit n (omega arith)) (18 ∷ 17 ∷ []) refl (c .match .rest) }
 
 pub exit-setext-spec : {M : Type 1} → statement M
 exit-setext-spec =

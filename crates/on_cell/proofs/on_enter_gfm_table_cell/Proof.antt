@@ -2,7 +2,7 @@
 use borrow.Author.Needs.{needs}
 use Rattle.on_cell.proofs.on_enter_gfm_table_cell.Statement.{statement}
 use Rattle.on_cell.proofs.on_enter_gfm_table_cell.Tie as tie
-use Rattle.machine.specs.OnTable.{onEnterGfmTableCell}
+use Rattle.machine.specs.OnCell.{onEnterGfmTableCell}
 use Rattle.state_context.proofs.Commands.{begins, whether-no}
 use Rattle.on_cell.proofs.Either.{opens-yes, opens-none}
 

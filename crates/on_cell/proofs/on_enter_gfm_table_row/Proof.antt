@@ -2,7 +2,7 @@
 use borrow.Author.Needs.{needs}
 use Rattle.on_cell.proofs.on_enter_gfm_table_row.Statement.{statement}
 use Rattle.on_cell.proofs.on_enter_gfm_table_row.Tie as tie
-use Rattle.machine.specs.OnTable.{onEnterGfmTableRow}
+use Rattle.machine.specs.OnCell.{onEnterGfmTableRow}
 use Rattle.state_context.proofs.Commands.{seq, puts}
 
 line-ending-if-needed-requires : tie.Need-line-ending-if-needed-requires

@@ -2,7 +2,7 @@
 use borrow.Author.Needs.{needs}
 use Rattle.on_cell.proofs.on_exit_gfm_table_cell.Statement.{statement}
 use Rattle.on_cell.proofs.on_exit_gfm_table_cell.Tie as tie
-use Rattle.machine.specs.OnTable.{onExitGfmTableCell}
+use Rattle.machine.specs.OnCell.{onExitGfmTableCell}
 use Rattle.state_context.proofs.Commands.{sets, whether-no}
 use Rattle.state_context.proofs.Slices.{takes-seq}
 use Rattle.on_cell.proofs.Either.{ends, takes-yes, takes-none}

@@ -3,7 +3,7 @@ use borrow.Author.Needs.{needs}
 use Rattle.on_cell.proofs.on_exit_gfm_table_row.Statement.{statement}
 use Rattle.on_cell.proofs.on_exit_gfm_table_row.Tie as tie
 use native.Mathlib.Omega.{arith}
-use Rattle.machine.specs.OnTable.{onExitGfmTableRow}
+use Rattle.machine.specs.OnCell.{onExitGfmTableRow}
 use Rattle.state_context.proofs.Commands.{sets, seq, puts}
 
 push-missing-cells-requires : tie.Need-push-missing-cells-requires

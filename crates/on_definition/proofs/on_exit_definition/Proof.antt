@@ -2,7 +2,7 @@
 use borrow.Author.Needs.{needs}
 use Rattle.on_definition.proofs.on_exit_definition.Statement.{statement}
 use Rattle.on_definition.proofs.on_exit_definition.Tie as tie
-use Rattle.machine.specs.OnMedia.{onExitDefinition}
+use Rattle.machine.specs.OnDefinition.{onExitDefinition}
 use Rattle.on_definition.proofs.Keeps.{dropped-first}
 
 drop-requires : tie.Need-drop-requires

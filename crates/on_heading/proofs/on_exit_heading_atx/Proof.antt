@@ -3,7 +3,7 @@ use borrow.Author.Needs.{needs}
 use Rattle.on_heading.proofs.on_exit_heading_atx.Statement.{statement}
 use Rattle.on_heading.proofs.on_exit_heading_atx.Tie as tie
 use native.Mathlib.Omega.{arith}
-use Rattle.machine.specs.OnFlow.{onExitHeadingAtx}
+use Rattle.machine.specs.OnHeading.{onExitHeadingAtx}
 use Rattle.state_context.proofs.Commands.{seq, puts, sets}
 
 slice-aggregate-push : tie.Need-slice-aggregate-push

@@ -3,7 +3,7 @@ use borrow.Author.Needs.{needs}
 use Rattle.on_heading.proofs.on_exit_heading_atx_sequence.Statement.{statement}
 use Rattle.on_heading.proofs.on_exit_heading_atx_sequence.Tie as tie
 use native.Mathlib.Omega.{arith}
-use Rattle.machine.specs.OnFlow.{onExitHeadingAtxSequence}
+use Rattle.machine.specs.OnHeading.{onExitHeadingAtxSequence}
 use Rattle.state_context.proofs.Commands.{any, idle, seq, puts, told, whether-yes, whether-no}
 
 has-rank-requires : tie.Need-has-rank-requires

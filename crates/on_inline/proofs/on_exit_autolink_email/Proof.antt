@@ -2,7 +2,7 @@
 use borrow.Author.Needs.{needs}
 use Rattle.on_inline.proofs.on_exit_autolink_email.Statement.{statement}
 use Rattle.on_inline.proofs.on_exit_autolink_email.Tie as tie
-use Rattle.machine.specs.OnText.{generateAutolink, onExitAutolinkEmail}
+use Rattle.machine.specs.OnInline.{generateAutolink, onExitAutolinkEmail}
 use Rattle.state_context.proofs.Commands.{seq}
 
 begin-email-requires : tie.Need-begin-email-requires

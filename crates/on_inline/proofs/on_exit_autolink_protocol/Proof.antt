@@ -2,7 +2,7 @@
 use borrow.Author.Needs.{needs}
 use Rattle.on_inline.proofs.on_exit_autolink_protocol.Statement.{statement}
 use Rattle.on_inline.proofs.on_exit_autolink_protocol.Tie as tie
-use Rattle.machine.specs.OnText.{generateAutolink, onExitAutolinkProtocol}
+use Rattle.machine.specs.OnInline.{generateAutolink, onExitAutolinkProtocol}
 use Rattle.state_context.proofs.Commands.{seq, narrow}
 
 begin-protocol-requires : tie.Need-begin-protocol-requires

@@ -2,7 +2,7 @@
 use borrow.Author.Needs.{needs}
 use Rattle.on_inline.proofs.on_exit_raw_text.Statement.{statement}
 use Rattle.on_inline.proofs.on_exit_raw_text.Tie as tie
-use Rattle.machine.specs.OnText.{onExitRawText}
+use Rattle.machine.specs.OnInline.{onExitRawText}
 use Rattle.state_context.proofs.Commands.{seq, sets, tag-of}
 use Rattle.state_context.proofs.Slices.{takes-seq}
 

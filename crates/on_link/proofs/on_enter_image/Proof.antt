@@ -3,7 +3,7 @@ use borrow.Author.Needs.{needs}
 use Rattle.on_link.proofs.on_enter_image.Statement.{statement}
 use Rattle.on_link.proofs.on_enter_image.Tie as tie
 use mathlib.Core.Path.{refl}
-use Rattle.machine.specs.OnMedia.{onEnterImage}
+use Rattle.machine.specs.OnLink.{onEnterImage}
 use Rattle.state_whole.proofs.Media.{opens-media}
 use Rattle.on_link.proofs.Lifted.{lifts-sets}
 use Rattle.on_link.proofs.Chains.{then-unlent}

@@ -2,7 +2,7 @@
 use borrow.Author.Needs.{needs}
 use Rattle.on_link.proofs.on_enter_link.Statement.{statement}
 use Rattle.on_link.proofs.on_enter_link.Tie as tie
-use Rattle.machine.specs.OnMedia.{onEnterLink}
+use Rattle.machine.specs.OnLink.{onEnterLink}
 use Rattle.state_whole.proofs.Media.{opens-media}
 
 open-media-requires : tie.Need-open-media-requires

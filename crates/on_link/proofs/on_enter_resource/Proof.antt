@@ -4,7 +4,7 @@ use Rattle.on_link.proofs.on_enter_resource.Statement.{statement}
 use Rattle.on_link.proofs.on_enter_resource.Tie as tie
 use mathlib.Core.Path.{refl}
 use native.Mathlib.Omega.{arith}
-use Rattle.machine.specs.OnMedia.{onEnterResource}
+use Rattle.machine.specs.OnLink.{onEnterResource}
 use Rattle.state_whole.proofs.Media.{empties}
 use Rattle.on_link.proofs.Lifted.{lifts-begins}
 use Rattle.on_link.proofs.Chains.{then-on-starts}

@@ -3,7 +3,7 @@ use borrow.Author.Needs.{needs}
 use Rattle.on_link.proofs.on_exit_label.Statement.{statement}
 use Rattle.on_link.proofs.on_exit_label.Tie as tie
 use native.Mathlib.Omega.{arith}
-use Rattle.machine.specs.OnMedia.{onExitLabel}
+use Rattle.machine.specs.OnLink.{onExitLabel}
 use Rattle.state_whole.proofs.Media.{stores}
 
 captured-length-requires : tie.Need-captured-length-requires

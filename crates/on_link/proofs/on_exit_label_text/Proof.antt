@@ -2,7 +2,7 @@
 use borrow.Author.Needs.{needs}
 use Rattle.on_link.proofs.on_exit_label_text.Statement.{statement}
 use Rattle.on_link.proofs.on_exit_label_text.Tie as tie
-use Rattle.machine.specs.OnMedia.{onExitLabelText}
+use Rattle.machine.specs.OnLink.{onExitLabelText}
 use Rattle.on_link.proofs.Lifted.{identified}
 
 identify-label-requires : tie.Need-identify-label-requires

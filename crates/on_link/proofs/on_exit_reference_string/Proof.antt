@@ -2,7 +2,7 @@
 use borrow.Author.Needs.{needs}
 use Rattle.on_link.proofs.on_exit_reference_string.Statement.{statement}
 use Rattle.on_link.proofs.on_exit_reference_string.Tie as tie
-use Rattle.machine.specs.OnMedia.{onExitReferenceString}
+use Rattle.machine.specs.OnLink.{onExitReferenceString}
 
 identify-reference-requires : tie.Need-identify-reference-requires
 identify-reference-requires c κs = search needs

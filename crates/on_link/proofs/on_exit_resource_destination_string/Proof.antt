@@ -2,7 +2,7 @@
 use borrow.Author.Needs.{needs}
 use Rattle.on_link.proofs.on_exit_resource_destination_string.Statement.{statement}
 use Rattle.on_link.proofs.on_exit_resource_destination_string.Tie as tie
-use Rattle.machine.specs.OnMedia.{onExitResourceDestinationString}
+use Rattle.machine.specs.OnLink.{onExitResourceDestinationString}
 
 store-destination-requires : tie.Need-store-destination-requires
 store-destination-requires c κs = search needs

@@ -2,7 +2,7 @@
 use borrow.Author.Needs.{needs}
 use Rattle.on_link.proofs.on_exit_resource_title_string.Statement.{statement}
 use Rattle.on_link.proofs.on_exit_resource_title_string.Tie as tie
-use Rattle.machine.specs.OnMedia.{onExitResourceTitleString}
+use Rattle.machine.specs.OnLink.{onExitResourceTitleString}
 
 store-title-requires : tie.Need-store-title-requires
 store-title-requires c κs = search needs

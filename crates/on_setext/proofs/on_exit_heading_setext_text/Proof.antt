@@ -4,7 +4,7 @@ use Rattle.on_setext.proofs.on_exit_heading_setext_text.Statement.{stat
 use Rattle.on_setext.proofs.on_exit_heading_setext_text.Tie as tie
 use mathlib.Core.Path.{refl}
 use native.Mathlib.Omega.{arith}
-use Rattle.machine.specs.OnFlow.{onExitHeadingSetextText}
+use Rattle.machine.specs.OnSetext.{onExitHeadingSetextText}
 use Rattle.state_whole.proofs.Shown.{holds}
 use Rattle.on_link.proofs.Lifted.{lifts-sets}
 use Rattle.on_link.proofs.Chains.{then-on-work}

@@ -7,7 +7,7 @@ use native.Mathlib.Omega.{arith}
 use Rattle.write_held.proofs.Steady.{quiet-steady, then-steady-page}
 use Rattle.write_held.proofs.Pages.{then-on-page, narrow-page, needs-page, same-within, regroup-four}
 use Rattle.on_setext.proofs.Dashes.{underlined}
-use Rattle.machine.specs.OnFlow.{setextRank, onExitHeadingSetextUnderlineSequence}
+use Rattle.machine.specs.OnSetext.{setextRank, onExitHeadingSetextUnderlineSequence}
 use Rattle.machine.specs.Command.{_▸_}
 use Rattle.machine.specs.Words.{put, lineEndingIfNeeded, release}
 

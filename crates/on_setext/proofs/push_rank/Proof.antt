@@ -4,7 +4,7 @@ use Rattle.on_setext.proofs.push_rank.Statement.{statement}
 use Rattle.on_setext.proofs.push_rank.Tie as tie
 use Rattle.state_context.proofs.Commands.{puts, whether-yes, whether-no}
 use Rattle.on_setext.proofs.Dashes.{tells-dashes}
-use Rattle.machine.specs.OnFlow.{setextRank}
+use Rattle.machine.specs.OnSetext.{setextRank}
 
 slice-aggregate-push : tie.Need-slice-aggregate-push
 slice-aggregate-push c = search needs

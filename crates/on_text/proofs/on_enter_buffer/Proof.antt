@@ -2,7 +2,7 @@
 use borrow.Author.Needs.{needs}
 use Rattle.on_text.proofs.on_enter_buffer.Statement.{statement}
 use Rattle.on_text.proofs.on_enter_buffer.Tie as tie
-use Rattle.machine.specs.OnMedia.{onEnterBuffer}
+use Rattle.machine.specs.OnText.{onEnterBuffer}
 
 open-requires : tie.Need-open-requires
 open-requires c κs = search needs

@@ -2,7 +2,7 @@
 use borrow.Author.Needs.{needs}
 use Rattle.on_text.proofs.on_exit_drop.Statement.{statement}
 use Rattle.on_text.proofs.on_exit_drop.Tie as tie
-use Rattle.machine.specs.OnMedia.{onExitDrop}
+use Rattle.machine.specs.OnText.{onExitDrop}
 
 drop-requires : tie.Need-drop-requires
 drop-requires c κs = search needs
