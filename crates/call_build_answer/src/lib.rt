@@ -1,4 +1,4 @@
-// A build's answer: its number (RULES R7.1), refusals 1 to 7, and every lent byte once the answer is known. The run is in `build`.
+// A build's answer: its number (RULES R7.1), refusals 1 to 7, and every lent byte once the answer is known. The run is in `call_build`.
 ghost use mathlib.Core.Path.{_≡_};
 ghost use Rattle.call_build_answer.specs.Built.{numberOf, valueOf, checkedOf, Leaves};
 ghost use Rattle.call_build_answer.specs.Rendered.{builtOf, keptOf};

@@ -1,4 +1,4 @@
--- What the code of `put_char` goes by: characters, by their length. Assumes nothing.
+-- What `put_char` goes by: characters, by their length. Assumes nothing.
 use mathlib.Core.Path.{_≡_}
 use mathlib.Core.List.{List, [], _∷_}
 use Prim.Native.Nat.{ℕ, _+_, _/_, _<_, _≤_}

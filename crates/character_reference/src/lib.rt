@@ -1,4 +1,4 @@
-// A character written in UTF-8.
+// Character references: what stands for a number or a name, in UTF-8.
 ghost use mathlib.Core.Path.{_≡_};
 ghost use Rattle.lent.specs.Fill.{Filled};
 ghost use Rattle.utf8.specs.Utf8.{tail};
@@ -10,6 +10,8 @@ ghost use Rattle.character_reference.specs.Reference.{isReplaced, codeOf
 ghost use Rattle.character_reference.specs.Table.{orderOf, nameAt, Lies, isPackedFrom, unpackedFrom, isAscending};
 
 mod packed;
+
+// ---- a character, written in UTF-8
 
 // Appends the character with the code `c`, or U+FFFD where there is none.
 pub fn put_char(out: &mut [u8], at: usize, c: u32) -> usize
@@ -50,7 +52,7 @@ fn tail_of(n: u32) -> u8
     (0x80 + n % 64) as u8
 }
 
-// Character references: what stands for a number or a name, in UTF-8.
+// ---- references
 
 // The newest marker before a value: 8, 9 or 10.
 pub enum Marker {

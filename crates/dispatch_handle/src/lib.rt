@@ -1,4 +1,4 @@
-// The event at an index goes to its handler: by whether that concerns the context alone, by enter or exit, and by its name. Enters of the context alone go to `enters`.
+// The event at an index goes to its handler: by whether that concerns the context alone, by enter or exit, and by its name. Enters of the context alone go to `dispatch_enter`.
 ghost use Prim.Native.Nat.{_<_};
 ghost use mathlib.Core.Bool.{false, not};
 ghost use mathlib.Core.Path.{_≡_};
@@ -24,7 +24,7 @@ pub fn is_whole(e: Event) -> bool
     dispatch_media::exits_whole(e.name)
 }
 
-// An exit that concerns the context alone, as `enters::on_enter` does for enters. The rest of the state is not even passed: what is passed is copied.
+// An exit that concerns the context alone, as `dispatch_enter::on_enter` does for enters. The rest of the state is not even passed: what is passed is copied.
 pub fn handle_exit(
     c: Context,
     text: &[u8],

@@ -1,4 +1,4 @@
-// An enter of a link, an image, a resource, a definition or a call goes to its handler by its name; elsewhere the state is left as it is.
+// An event that concerns media, definitions, footnotes or setext headings goes to its handler by its name; elsewhere the state is left as it is.
 ghost use mathlib.Core.Path.{_≡_};
 ghost use Rattle.dispatch_media.specs.Enters.{entersWhole, Enters};
 ghost use Rattle.state_kept.specs.Kept.{tables};
@@ -6,6 +6,8 @@ ghost use Rattle.dispatch_media.specs.Exits.{exitsWhole, Exits, ExitsSet
 use event::Event;
 use machine::Options;
 use state_whole::Whole;
+
+// ---- enters
 
 // Whether a name is of this crate.
 pub fn enters_whole(name: u8) -> bool
@@ -30,7 +32,7 @@ pub fn on_enter(b: Whole, e: Event, starts: &mut [usize]) -> Whole
     }
 }
 
-// An exit that concerns media, definitions, footnotes or setext headings goes to its handler by its name; elsewhere the state is left as it is.
+// ---- exits
 
 // Whether a name is of this crate.
 pub fn exits_whole(name: u8) -> bool

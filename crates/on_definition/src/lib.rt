@@ -1,4 +1,4 @@
-// Definitions: kept where one ends, and sought where a link or an image ends.
+// Handlers of definitions, by their Rust names; and the search for one.
 ghost use mathlib.Core.Path.{_≡_};
 ghost use Prim.Native.Nat.{min, _+_, _-_};
 ghost use Rattle.machine.specs.Words.{seekDefinition};
@@ -6,6 +6,10 @@ ghost use Rattle.machine.specs.OnDefinition.{onExitDefinition, onEnterDefinitio
 ghost use Rattle.state_whole.specs.Whole.{Roomy, Always, FromStarts, OnStarts, OnWork};
 ghost use Rattle.on_definition.specs.Definitions.{Known, FromDefinitions, OnDefinitions};
 ghost use Rattle.on_definition.specs.Private.{soughtOf, ownPiece, textPiece, wordOf, SeeksAt, SeeksLabel, KeepsAt, KeepsNewest};
+ghost use mathlib.Core.Bool.{false};
+ghost use Rattle.state_context.specs.Rel.{Any};
+ghost use Rattle.on_link.specs.Links.{Handled};
+use event::Event;
 use normalize_identifier::Found;
 use state_media::Destination;
 use state_media::Label;
@@ -14,10 +18,6 @@ use state_media::Piece;
 use state_media::Span;
 use state_media::Text;
 use state_whole::Whole;
-ghost use mathlib.Core.Bool.{false};
-ghost use Rattle.state_context.specs.Rel.{Any};
-ghost use Rattle.on_link.specs.Links.{Handled};
-use event::Event;
 
 pub fn on_enter_definition(b: Whole, starts: &mut [usize]) -> Whole
     ensures { λ r. ⌜ OnStarts Always Any onEnterDefinition b (now (starts .entry)) r (now (starts .exit)) ⌝ }

@@ -1,4 +1,4 @@
-// Handlers of blocks, by their Rust names.
+// Handlers of paragraphs, quotes and code blocks, by their Rust names.
 ghost use Rattle.machine.specs.OnFlow.{onEnterParagraph, onExitParagraph, onEnterBlockQuote, onExitBlockQuote, onExitThematicBreak, onEnterCodeIndented, onEnterRawFlow, onExitRawFlowFence, onExitRawFlowFenceInfo, onExitRawFlow, onExitRawFlowChunk};
 ghost use mathlib.Core.Bool.{true};
 ghost use Rattle.machine.specs.Set.{slurp};

@@ -1,4 +1,4 @@
-// Handlers of atx headings and of lines of code, by their Rust names.
+// Handlers of atx headings, by their Rust names.
 ghost use Rattle.machine.specs.Words.{rank, keepRank};
 ghost use Rattle.machine.specs.OnHeading.{onExitHeadingAtxSequence, onExitHeadingAtx, onExitHeadingAtxText};
 ghost use Rattle.state_context.specs.Rel.{Any, Sees, Keeps, SetsFor, Takes};

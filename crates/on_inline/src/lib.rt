@@ -1,4 +1,4 @@
-// Handlers of character references, code text and autolinks, by their Rust names.
+// Handlers of emphasis, strong, breaks, code text and autolinks, by their Rust names.
 ghost use Rattle.machine.specs.Set.{alt};
 ghost use Rattle.machine.specs.Test.{is};
 ghost use Rattle.machine.specs.Command.{_▸_};

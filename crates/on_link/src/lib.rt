@@ -1,4 +1,4 @@
-// Handlers of links, images and definitions up to their ends, by their Rust names.
+// Handlers of links and images up to their ends, by their Rust names.
 ghost use mathlib.Core.Path.{_≡_};
 ghost use mathlib.Core.Bool.{true, false};
 ghost use Prim.Native.Nat.{_-_};

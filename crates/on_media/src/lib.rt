@@ -1,4 +1,4 @@
-// The parts of a link or an image, written: its label, where it leads, its title.
+// The end of a link or an image, by its Rust name: where it leads, its label and its title are written.
 ghost use Prim.Native.Nat.{_≤_};
 ghost use Rattle.machine.specs.Turn.{urlOf};
 ghost use Rattle.machine.specs.Media.{label, destination, title, titleText};
@@ -18,6 +18,8 @@ use machine::Options;
 use state_media::Destination;
 use state_media::Text;
 use state_whole::Whole;
+
+// ---- the parts, written
 
 // ---- writing
 
@@ -183,7 +185,7 @@ pub fn show_title(b: Whole, work: &mut [u8], out: &mut [u8], definitions: &[usiz
     }
 }
 
-// The end of a link or an image, by its Rust name: where it leads, its label and its title are written.
+// ---- the end
 
 // Whether this is still in the text of an image.
 fn leave_image(b: Whole) -> Whole

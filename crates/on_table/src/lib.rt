@@ -1,4 +1,4 @@
-// The table that is open: its columns, the one of the next cell, and how a cell in it is aligned.
+// Handlers of tables and of their heads and bodies, by their Rust names; and the table that is open.
 ghost use mathlib.Core.Path.{_≡_};
 ghost use Rattle.event.specs.Event.{columnsOf};
 ghost use Rattle.machine.specs.Test.{isPastColumns};
@@ -9,6 +9,8 @@ ghost use Rattle.machine.specs.OnTable.{onEnterGfmTable, onExitGfmTable, onEnte
 use event::BytePlace;
 use event::Event;
 use state_context::Context;
+
+// ---- the table that is open: its columns, the one of the next cell, and how a cell in it is aligned
 
 // A table begins. The extra field of its enter says its columns.
 pub fn open_table(c: Context, e: Event) -> Context
@@ -99,7 +101,7 @@ pub fn push_alignment(c: Context, captures: &mut [u8], out: &mut [u8]) -> Contex
     r
 }
 
-// Handlers of tables and of their heads and bodies, by their Rust names.
+// ---- handlers
 
 pub fn on_enter_gfm_table(c: Context, e: Event, captures: &mut [u8], out: &mut [u8]) -> Context
     ensures { λ r. ⌜ Keeps (IsEvent e) onEnterGfmTable c (now (captures .entry)) (now (out .entry)) r (now (captures .exit)) (now (out .exit)) ⌝ }

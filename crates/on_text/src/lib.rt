@@ -1,10 +1,10 @@
-// Handlers of what stands in a line, by their Rust names.
+// Handlers of data, references, line endings, HTML and captures, by their Rust names.
 ghost use Rattle.machine.specs.OnText.{onExitHtml, onEnterHtmlText, onEnterHtmlFlow, onExitHtmlData, onExitData, onExitCharacterReferenceMarker, onExitCharacterReferenceMarkerNumeric, onExitCharacterReferenceMarkerHexadecimal, onExitLineEnding, onExitBlankLineEnding, onEnterBuffer, onExitDrop, onExitCharacterReferenceValue};
 ghost use Rattle.state_context.specs.Rel.{Sees, SeesEnding, HtmlAllowed, IsLast, Keeps, Begins, Ends, Sets, SetsFor};
+ghost use Rattle.machine.specs.Test.{is};
 use character_reference::Marker;
 use event::Event;
 use state_context::Context;
-ghost use Rattle.machine.specs.Test.{is};
 use state_context::Mark;
 
 pub fn on_exit_html(c: Context) -> Context

@@ -1,9 +1,11 @@
-// A stack of at most 64 answers, such as which containers are tight: a bit each, the newest lowest.
+// Small answers packed into one word: a stack of at most 64 bits, and 32 digits of two bits.
 ghost use Prim.Native.Nat.{_<_, _^_};
 ghost use mathlib.Core.Path.{_≡_};
 ghost use Rattle.packed.specs.Tight.{More, Fewer, Newest, Any};
 ghost use Rattle.packed.specs.Private.{wider};
 ghost use Rattle.packed.specs.Word.{digitOf, Placed};
+
+// ---- the stack: which containers are tight, say; a bit each, the newest lowest
 
 pub struct Tight {
     pub bits: u64,
@@ -72,7 +74,7 @@ pub fn any(t: Tight) -> bool
     t.bits != 0
 }
 
-// A word of 32 digits of two bits each: small answers that are kept together, so that a store of one is no narrower than a read of all.
+// ---- the digits: answers that are kept together, so that a store of one is no narrower than a read of all
 
 // The digit at k.
 pub fn digit(w: u64, k: usize) -> u64

@@ -1,4 +1,4 @@
-// Which events have no handler: they leave the state as it is, and a pass goes on at once.
+// Where a pass goes next: the first event from a place on at which something is to be done.
 ghost use Rattle.run_next.specs.Idle.{Idles};
 ghost use Prim.Native.Nat.{_<_};
 ghost use mathlib.Core.Bool.{true, false};
@@ -9,6 +9,8 @@ ghost use Rattle.run_next.specs.Reach.{wanted};
 ghost use Rattle.run_next.specs.Walks.{Leaves, Walks, Ahead};
 use event::Event;
 use event::EventIndex;
+
+// ---- events without a handler: they leave the state as it is, and a pass goes on at once
 
 // A bit for each name below 64, the lowest for 0, whose enter has no handler.
 const ENTERS: u64 = 0x0001_1E55_258D_6FFF;
@@ -29,7 +31,7 @@ pub fn is_idle(kind: u8, name: u8) -> bool
     EXITS >> name & 1 == 1
 }
 
-// Where a pass goes next: the first event from a place on at which something is to be done.
+// ---- the walk
 
 // Where a pass stands: before the event at an index, inside a definition or not.
 pub struct Place {

@@ -1,4 +1,4 @@
-// The whole state of a build: the context, the open media, and the counts of what is kept. There is no code here.
+// The whole state of a build: the context, the open media, the counts of what is kept; and whether something lacks room after an event.
 ghost use Rattle.state_whole.specs.Lacking.{Lacks};
 use state_context::Context;
 use state_kept::Kept;
@@ -10,7 +10,7 @@ pub struct Whole {
     pub kept: Kept,
 }
 
-// Whether something lacks room after an event: the limits of 8 and 9.
+// ---- room: the limits of 8 and 9
 
 // The number of the refusal where something lacks room, 8 before 9; else 0.
 pub fn lack(b: Whole, room: usize) -> usize

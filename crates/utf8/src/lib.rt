@@ -1,4 +1,4 @@
-// UTF-8 by RFC 3629, a byte at a time: what is due next.
+// UTF-8 by RFC 3629: whether a text is valid, and whether a place of it is inside a character.
 ghost use mathlib.Core.Path.{_≡_};
 ghost use Rattle.utf8.specs.Table.{afterFirst, next, isWhole, lengthOf};
 ghost use Rattle.utf8.specs.Wanted.{secondFrom, secondTo};
@@ -6,6 +6,8 @@ ghost use Prim.Native.Nat.{_+_, _≤_};
 ghost use lib.ListN.{length, take, drop};
 ghost use Rattle.utf8.specs.Utf8.{isUtf8, inside};
 ghost use Rattle.utf8.specs.Private.{asciiRun, bitsOf};
+
+// ---- a byte at a time: what is due next
 
 // What is due next: a first byte; `left` more bytes of a character, the next of them from lo to hi; or nothing mends it.
 pub enum Due {
@@ -115,7 +117,7 @@ pub fn is_whole(due: Due) -> bool
     }
 }
 
-// UTF-8 by RFC 3629: whether a text is valid, and whether a place of it is inside a character.
+// ---- a whole text
 
 // Whether a text is UTF-8. Runs of ASCII bytes are skipped.
 pub fn is_utf8(s: &[u8]) -> bool

@@ -1,4 +1,4 @@
--- What the code of `address` goes by: the walk over an identity, and the two bytes behind a %. Assumes nothing.
+-- What `put_address` goes by: the walk over an identity, and the two bytes behind a %. Assumes nothing.
 use mathlib.Core.Path.{_≡_, refl, ap, _∙_}
 use mathlib.Core.Bool.{Bool, true, false, and-false}
 use mathlib.Core.List.{List, [], _∷_, _++_}

@@ -1,4 +1,4 @@
-// A footnote's address: its label's identity, lower-cased and sanitized, read off the label byte by byte.
+// What is written of a footnote: its address, a call, and the way back to each call behind its body. And how a body ends.
 ghost use mathlib.Core.Bool.{true};
 ghost use mathlib.Core.List.{[], _∷_};
 ghost use mathlib.Core.Path.{_≡_};
@@ -17,6 +17,8 @@ ghost use Rattle.write_footnote.specs.Pieces.{backHref, backEnd, backTex
 use normalize_identifier::Cursor;
 use normalize_identifier::Step;
 use state_buffers::Buffers;
+
+// ---- the address: the label's identity, lower-cased and sanitized, read off the label byte by byte
 
 // Appends the address of a label. Nothing is kept of the identity, however long it is.
 pub fn put_address(label: &[u8], out: &mut [u8], at: usize) -> usize
@@ -87,7 +89,7 @@ fn to_lower(b: u8) -> u8
     b
 }
 
-// What is written of a footnote: a call, and the way back to each call behind its body. And how a body ends.
+// ---- a call
 
 // ---- a call
 

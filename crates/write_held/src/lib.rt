@@ -1,4 +1,4 @@
-// Bytes that are held or kept, written to the newest buffer. They stand behind the captures in the same work bytes.
+// Texts of ours, and pieces of what is held or kept, written to the newest buffer. What is held stands behind the captures in the same work bytes.
 ghost use mathlib.Core.Path.{_≡_};
 ghost use lib.ListN.{length, take, drop};
 ghost use Rattle.machine.specs.Turn.{urlOf};
@@ -8,6 +8,8 @@ ghost use Prim.Native.Nat.{_≤_};
 ghost use Rattle.write_held.specs.Show.{asIs, ShowsText, ShowsPiece};
 use machine::Options;
 use state_buffers::Buffers;
+
+// ---- parts of the work bytes
 
 // Appends n of the work bytes, from a place on.
 pub fn push_part(b: Buffers, work: &mut [u8], out: &mut [u8], from: usize, n: usize) -> Buffers
@@ -132,7 +134,7 @@ fn put_url_by(
     write_pieces::put_url(&mut work[0..16384], at, &copy[0..n], options, image)
 }
 
-// Texts of ours, and pieces of what is held or kept, written to the newest buffer by the work bytes and the page.
+// ---- texts and pieces
 
 pub fn push_text(b: Buffers, work: &mut [u8], out: &mut [u8], s: &[u8]) -> Buffers
     ensures { λ r. ⌜ ShowsText (now (s .entry)) b (now (work .entry)) (now (out .entry)) r (now (work .exit)) (now (out .exit)) ⌝ }

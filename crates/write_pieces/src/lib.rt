@@ -1,4 +1,4 @@
-// Short texts appended to a lent buffer: a number, spaces, a list's start, a column's alignment.
+// What handlers write beside texts of ours: numbers, padded lines, addresses, character references, attributes.
 ghost use Prim.Native.Nat.{_+_, _<_};
 ghost use mathlib.Core.Path.{_≡_};
 ghost use lib.ListN.{replicate};
@@ -22,6 +22,8 @@ use event::Event;
 use machine::Options;
 use sanitize_uri::Protocols;
 use state_buffers::Buffers;
+
+// ---- short texts, appended to a lent buffer
 
 // What the digits of an item's value say; nothing where the slice breaks its rule.
 pub enum Start {
@@ -120,7 +122,7 @@ pub fn put_align(out: &mut [u8], at: usize, a: u64) -> usize
     }
 }
 
-// What handlers write beside texts of ours: numbers, padded lines, addresses, character references, attributes. Each goes to the newest buffer.
+// ---- the same, to the newest buffer
 
 // A number in decimal.
 pub fn push_decimal(b: Buffers, captures: &mut [u8], out: &mut [u8], n: usize) -> Buffers
