@@ -46,22 +46,22 @@ pub struct Counting {
 }
 
 // A bit for each name below 64, the lowest for 0, whose enter 5, 6 or 7 looks at: headings, links, images, calls and definitions of both kinds.
-const ENTERS: u64 = 0xC020_6000_0000_2000;
+const WATCHED_ENTERS: u64 = 0xC020_6000_0000_2000;
 
 // The same for exits: those that have a rule of slices or that one looks back for.
-const EXITS: u64 = 0x0404_4F18;
+const WATCHED_EXITS: u64 = 0x0404_4F18;
 
 // Whether an enter of this name is known to have no rule but that of its fields: most have none.
 fn is_idle_enter(name: u8) -> bool
     ensures { λ r. ⌜ IdleEnter name r ⌝ }
 {
-    ENTERS >> (name & 63) & 1 == 0
+    WATCHED_ENTERS >> (name & 63) & 1 == 0
 }
 
 fn is_idle_exit(name: u8) -> bool
     ensures { λ r. ⌜ IdleExit name r ⌝ }
 {
-    EXITS >> (name & 63) & 1 == 0
+    WATCHED_EXITS >> (name & 63) & 1 == 0
 }
 
 fn no_slices(count: usize) -> Slicing

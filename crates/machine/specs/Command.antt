@@ -82,8 +82,8 @@ holding release s = need (s .waiting .setext) >>= λ b. go (push b (setSetext no
 pub data Mode : Type 0 where
   set : Flag → Bool → Mode
   leaveImage : Mode
-  tighten : Bool → Mode
-  loosen : Mode
+  openContainer : Bool → Mode
+  closeContainer : Mode
 
 abbrev pub tail : {A : Type 0} → List A → List A
 tail [] = []
@@ -92,8 +92,8 @@ tail (x ∷ xs) = xs
 abbrev pub setting : Mode → State → Outcome State
 setting (set flag x) s = go (setFlag flag x s)
 setting leaveImage s = leaveAlt s
-setting (tighten x) s = go (setTight (x ∷ s .tight) s)
-setting loosen s = go (setTight (tail (s .tight)) s)
+setting (openContainer x) s = go (setTight (x ∷ s .tight) s)
+setting closeContainer s = go (setTight (tail (s .tight)) s)
 
 -- what waits
 pub data Wait : Type 0 where

@@ -4,7 +4,7 @@ use mathlib.Core.Option.{none, some}
 use Rattle.machine.specs.Set.{slurp}
 use Rattle.machine.specs.Test.{isTight, isInContainer, hasSeenData, isFirstFence, isFencedOnce, isFenceMissing, isBehindFence}
 use Rattle.machine.specs.Command.{Command, _▸_, whether}
-use Rattle.machine.specs.Words.{when, unless, put, chunk, lineEnding, lineEndingIfNeeded, resume, set, tighten, loosen, seenData, fences, countFence}
+use Rattle.machine.specs.Words.{when, unless, put, chunk, lineEnding, lineEndingIfNeeded, resume, set, openContainer, closeContainer, seenData, fences, countFence}
 
 -- ---- paragraphs, quotes, thematic breaks
 
@@ -15,10 +15,10 @@ unfoldable pub onExitParagraph : Command
 onExitParagraph = whether isTight (set slurp true) (put "</p>")
 
 unfoldable pub onEnterBlockQuote : Command
-onEnterBlockQuote = tighten false ▸ lineEndingIfNeeded ▸ put "<blockquote>"
+onEnterBlockQuote = openContainer false ▸ lineEndingIfNeeded ▸ put "<blockquote>"
 
 unfoldable pub onExitBlockQuote : Command
-onExitBlockQuote = loosen ▸ lineEndingIfNeeded ▸ set slurp false ▸ put "</blockquote>"
+onExitBlockQuote = closeContainer ▸ lineEndingIfNeeded ▸ set slurp false ▸ put "</blockquote>"
 
 unfoldable pub onExitThematicBreak : Command
 onExitThematicBreak = lineEndingIfNeeded ▸ put "<hr />"

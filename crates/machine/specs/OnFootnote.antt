@@ -1,7 +1,7 @@
 -- Handlers of footnotes. Assumes nothing.
 use mathlib.Core.Bool.{false}
 use Rattle.machine.specs.Command.{Command, _▸_}
-use Rattle.machine.specs.Words.{buffer, drop, tighten, loosen, openMedia, footnoteLabel, keepFootnote, call}
+use Rattle.machine.specs.Words.{buffer, drop, openContainer, closeContainer, openMedia, footnoteLabel, keepFootnote, call}
 
 unfoldable pub onEnterGfmFootnoteCall : Command
 onEnterGfmFootnoteCall = openMedia false
@@ -10,7 +10,7 @@ unfoldable pub onExitGfmFootnoteCall : Command
 onExitGfmFootnoteCall = call
 
 unfoldable pub onEnterGfmFootnoteDefinition : Command
-onEnterGfmFootnoteDefinition = tighten false
+onEnterGfmFootnoteDefinition = openContainer false
 
 unfoldable pub onExitGfmFootnoteDefinitionLabelString : Command
 onExitGfmFootnoteDefinitionLabelString = footnoteLabel
@@ -20,4 +20,4 @@ unfoldable pub onExitGfmFootnoteDefinitionPrefix : Command
 onExitGfmFootnoteDefinitionPrefix = drop ▸ buffer
 
 unfoldable pub onExitGfmFootnoteDefinition : Command
-onExitGfmFootnoteDefinition = keepFootnote ▸ loosen
+onExitGfmFootnoteDefinition = keepFootnote ▸ closeContainer

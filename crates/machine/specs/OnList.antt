@@ -3,14 +3,14 @@ use mathlib.Core.Bool.{true, false}
 use Rattle.machine.specs.Set.{slurp}
 use Rattle.machine.specs.Test.{isOrdered, isLoose, isFirstMarker, isTightParagraph, isEmptyItem}
 use Rattle.machine.specs.Command.{Command, _▸_, whether}
-use Rattle.machine.specs.Words.{when, unless, put, start, lineEnding, lineEndingIfNeeded, set, tighten, loosen, first}
+use Rattle.machine.specs.Words.{when, unless, put, start, lineEnding, lineEndingIfNeeded, set, openContainer, closeContainer, first}
 
 -- no > yet: the first item's value comes first
 unfoldable pub onEnterList : Command
-onEnterList = whether isLoose (tighten false) (tighten true) ▸ lineEndingIfNeeded ▸ whether isOrdered (put "<ol") (put "<ul") ▸ first true
+onEnterList = whether isLoose (openContainer false) (openContainer true) ▸ lineEndingIfNeeded ▸ whether isOrdered (put "<ol") (put "<ul") ▸ first true
 
 unfoldable pub onExitList : Command
-onExitList = loosen ▸ lineEnding ▸ whether isOrdered (put "</ol>") (put "</ul>")
+onExitList = closeContainer ▸ lineEnding ▸ whether isOrdered (put "</ol>") (put "</ul>")
 
 unfoldable pub onEnterListItemMarker : Command
 onEnterListItemMarker = when isFirstMarker (put ">") ▸ lineEndingIfNeeded ▸ put "<li>" ▸ first false

@@ -64,11 +64,11 @@ set flag x = step (C.mode (C.set flag x))
 abbrev pub leaveImage : Command
 leaveImage = step (C.mode C.leaveImage)
 
-abbrev pub tighten : Bool → Command
-tighten x = step (C.mode (C.tighten x))
+abbrev pub openContainer : Bool → Command
+openContainer x = step (C.mode (C.openContainer x))
 
-abbrev pub loosen : Command
-loosen = step (C.mode C.loosen)
+abbrev pub closeContainer : Command
+closeContainer = step (C.mode C.closeContainer)
 
 abbrev pub keepRank : Command
 keepRank = step (C.wait C.keepRank)

@@ -17,7 +17,7 @@ use Rattle.machine.specs.Turn.{Turn, spanOf, sliceOf, ownStr}
 use Rattle.machine.specs.Text.{startText, startOf, codeOf}
 use Rattle.machine.specs.Media.{newMedia, withPart, withId}
 use Rattle.machine.specs.Test.{Test, test}
-use Rattle.machine.specs.Command.{Command, nothing, step, _▸_, whether, missingCells, Step, write, capture, setext, mode, wait, column, medium, retain, Given, ours as ours-text, lineEnding, lineEndingIfNeeded, givenText, Made, slice, chunk, url, madeOf, Source, given, made, rank, start, alignment, part, textOf, Capture, buffer, drop, resume, resumeCode, capturing, Setext, hold, release, holding, Mode, set, leaveImage, tighten, loosen, setting, Wait, keepRank, forgetRank, seenData, fences, countFence, marker, reference, first, awaiting, Column, columns, noColumns, nextColumn, firstColumn, counting, Medium, openMedia, closeMedia, store, emptyDestination, identify, seekDefinition, knowing, Keep, keepDefinition, footnoteLabel, keepFootnote, call, keeping, tail, perform, repeat, exec}
+use Rattle.machine.specs.Command.{Command, nothing, step, _▸_, whether, missingCells, Step, write, capture, setext, mode, wait, column, medium, retain, Given, ours as ours-text, lineEnding, lineEndingIfNeeded, givenText, Made, slice, chunk, url, madeOf, Source, given, made, rank, start, alignment, part, textOf, Capture, buffer, drop, resume, resumeCode, capturing, Setext, hold, release, holding, Mode, set, leaveImage, openContainer, closeContainer, setting, Wait, keepRank, forgetRank, seenData, fences, countFence, marker, reference, first, awaiting, Column, columns, noColumns, nextColumn, firstColumn, counting, Medium, openMedia, closeMedia, store, emptyDestination, identify, seekDefinition, knowing, Keep, keepDefinition, footnoteLabel, keepFootnote, call, keeping, tail, perform, repeat, exec}
 use Rattle.machine.specs.Words as W
 use Rattle.machine_clean.specs.Clean.{Valid, more, Maybe, missing, there, ours as itself, Clean}
 use Rattle.machine_clean.specs.Ours.{plain, oursGiven, oursMade, oursWritten, oursAround, oursIn, ours}
@@ -86,8 +86,8 @@ held release s c = chain _ (needed (c .setext)) (λ b v. goes (pushed (with-sete
 moded : (x : Mode) (s : State) → Clean s → Safe Clean (setting x s)
 moded (set flag x) s c = goes (alike (setFlag flag x s) c refl)
 moded leaveImage s c = left c
-moded (tighten x) s c = goes (alike (setTight (x ∷ s .tight) s) c refl)
-moded loosen s c = goes (alike (setTight (tail (s .tight)) s) c refl)
+moded (openContainer x) s c = goes (alike (setTight (x ∷ s .tight) s) c refl)
+moded closeContainer s c = goes (alike (setTight (tail (s .tight)) s) c refl)
 
 awaited : (x : Wait) (t : Turn) (s : State) → Clean s → Safe Clean (awaiting x t s)
 awaited keepRank t s c = chain _ (any (sliceOf (t .text) (spanOf (t .event)))) (λ b _. goes (alike (setRank (some (length b)) s) c refl))

@@ -18,7 +18,7 @@ use Rattle.machine.specs.Text.{codeOf}
 use Rattle.machine.specs.Media as M
 use Rattle.machine.specs.Media.{newMedia, onNewest, withPart, withId}
 use Rattle.machine.specs.Test.{test}
-use Rattle.machine.specs.Command.{Command, nothing, step, _▸_, whether, missingCells, Step, write, capture, setext, mode, wait, column, medium, retain, textOf, Capture, buffer, drop, resume, resumeCode, capturing, Setext, hold, release, holding, Mode, set, leaveImage, tighten, loosen, setting, Wait, keepRank, forgetRank, seenData, fences, countFence, marker, reference, first, awaiting, Column, columns, noColumns, nextColumn, firstColumn, counting, Medium, openMedia, closeMedia, store, emptyDestination, identify, seekDefinition, knowing, Keep, keepDefinition, footnoteLabel, keepFootnote, call, keeping, tail, perform, repeat, exec}
+use Rattle.machine.specs.Command.{Command, nothing, step, _▸_, whether, missingCells, Step, write, capture, setext, mode, wait, column, medium, retain, textOf, Capture, buffer, drop, resume, resumeCode, capturing, Setext, hold, release, holding, Mode, set, leaveImage, openContainer, closeContainer, setting, Wait, keepRank, forgetRank, seenData, fences, countFence, marker, reference, first, awaiting, Column, columns, noColumns, nextColumn, firstColumn, counting, Medium, openMedia, closeMedia, store, emptyDestination, identify, seekDefinition, knowing, Keep, keepDefinition, footnoteLabel, keepFootnote, call, keeping, tail, perform, repeat, exec}
 use Rattle.machine_clean.proofs.Safe.{Safe, stops, halts, goes as on, chain, any}
 use Rattle.machine_shape.specs.Shape.{Say, Shape, changed, over, gone, idle, seq, covers, keepAll}
 use Rattle.machine_shape.specs.Acts.{Contract, act, waiting, turns, withTight, withLabels, withCaptures, withMedia, down1, up1, capturesBy, holds, modes, waits, counts, knows, keeps}
@@ -33,11 +33,11 @@ use Rattle.machine_frame.proofs.Writes.{unmoved, same, does-after, wrot
 stays : (s : State) → Does idle s s
 stays s = same s s refl refl refl refl refl
 
-tightens : (x : Bool) (s : State) → Does (withTight up1 idle) s (setTight (x ∷ s .tight) s)
-tightens x s = let d = stays s in record { buffers = d .buffers; tight = refl; labels = refl; stack = refl; waits = d .waits }
+opens-container : (x : Bool) (s : State) → Does (withTight up1 idle) s (setTight (x ∷ s .tight) s)
+opens-container x s = let d = stays s in record { buffers = d .buffers; tight = refl; labels = refl; stack = refl; waits = d .waits }
 
-loosens : (s : State) → Does (withTight down1 idle) s (setTight (tail (s .tight)) s)
-loosens s = let d = stays s in record { buffers = d .buffers; tight = at (s .tight); labels = refl; stack = refl; waits = d .waits }
+closes-container : (s : State) → Does (withTight down1 idle) s (setTight (tail (s .tight)) s)
+closes-container s = let d = stays s in record { buffers = d .buffers; tight = at (s .tight); labels = refl; stack = refl; waits = d .waits }
   where
     at : (xs : List Bool) → tail xs ≡ L.drop 1 xs
     at [] = refl
@@ -61,8 +61,8 @@ held-setext release s = chain _ (any (need (s .waiting .setext))) (λ b _. on (w
 moded : (x : Mode) (s : State) → Safe (Does (modes x .does) s) (setting x s)
 moded (set flag v) s = on (same s (setFlag flag v s) refl refl refl refl refl)
 moded leaveImage s = left s
-moded (tighten v) s = on (tightens v s)
-moded loosen s = on (loosens s)
+moded (openContainer v) s = on (opens-container v s)
+moded closeContainer s = on (closes-container s)
 
 awaited : (x : Wait) (t : Turn) (s : State) → Safe (Does (waits x .does) s) (awaiting x t s)
 awaited keepRank t s = chain _ (any (sliceOf (t .text) (spanOf (t .event)))) (λ b _. on (unmoved (turns (0 ∷ []) []) s (setRank (some (length b)) s) refl refl refl refl (λ i. i) (λ i. i)))

@@ -16,7 +16,7 @@ use Rattle.machine.specs.Text.{codeOf}
 use Rattle.machine.specs.Media as M
 use Rattle.machine.specs.Media.{withId}
 use Rattle.machine.specs.Test.{test}
-use Rattle.machine.specs.Command.{Command, nothing, step, _▸_, whether, missingCells, Step, write, capture, setext, mode, wait, column, medium, retain, textOf, Capture, buffer, drop, resume, resumeCode, capturing, Setext, hold, release, holding, Mode, set, leaveImage, tighten, loosen, setting, Wait, keepRank, forgetRank, seenData, fences, countFence, marker, reference, first, awaiting, Column, columns, noColumns, nextColumn, firstColumn, counting, Medium, openMedia, closeMedia, store, emptyDestination, identify, seekDefinition, knowing, Keep, keepDefinition, footnoteLabel, keepFootnote, call, keeping, perform, repeat, exec}
+use Rattle.machine.specs.Command.{Command, nothing, step, _▸_, whether, missingCells, Step, write, capture, setext, mode, wait, column, medium, retain, textOf, Capture, buffer, drop, resume, resumeCode, capturing, Setext, hold, release, holding, Mode, set, leaveImage, openContainer, closeContainer, setting, Wait, keepRank, forgetRank, seenData, fences, countFence, marker, reference, first, awaiting, Column, columns, noColumns, nextColumn, firstColumn, counting, Medium, openMedia, closeMedia, store, emptyDestination, identify, seekDefinition, knowing, Keep, keepDefinition, footnoteLabel, keepFootnote, call, keeping, perform, repeat, exec}
 use Rattle.machine.proofs.Outcomes.{never, first-goes, need-goes}
 use Rattle.machine_shape.proofs.Says.{both}
 use Rattle.machine_never.specs.Values.{values, doTo, waitEffects, mediumEffects, keepEffects, stepEffects, effectsOf, isNone, tracks}
@@ -40,8 +40,8 @@ moded : (x : Mode) (t : Turn) (s u : State) → setting x s ≡ go u → values 
 unfolding exec
 moded (set flag v) t s u h = same-go _ u (values s) h refl
 moded leaveImage t s u h = leave-done t s u h
-moded (tighten v) t s u h = same-go _ u (values s) h refl
-moded loosen t s u h = same-go _ u (values s) h refl
+moded (openContainer v) t s u h = same-go _ u (values s) h refl
+moded closeContainer t s u h = same-go _ u (values s) h refl
 
 awaited : (x : Wait) (t : Turn) (s u : State) → awaiting x t s ≡ go u → values u ≡ doTo (t .text) (t .event) (waitEffects x) (values s)
 unfolding exec effectsOf

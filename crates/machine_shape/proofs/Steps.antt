@@ -12,7 +12,7 @@ use Rattle.machine.specs.State.{State}
 use Rattle.machine.specs.Set.{setTight, setFlag, withFlag, setRank, setSeen, setFences, setMarker, setFirst, setAligns, setColumn}
 use Rattle.machine.specs.Turn.{Turn, spanOf, sliceOf}
 use Rattle.machine.specs.Media as M
-use Rattle.machine.specs.Command.{Step, write, capture, setext, mode, wait, column, medium, retain, Capture, buffer, drop, resume, resumeCode, capturing, Setext, hold, release, holding, Mode, set, leaveImage, tighten, loosen, setting, Wait, keepRank, forgetRank, seenData, fences, countFence, marker, reference, first, awaiting, Column, columns, noColumns, nextColumn, firstColumn, counting, Medium, openMedia, closeMedia, store, emptyDestination, identify, seekDefinition, knowing, Keep, keepDefinition, footnoteLabel, keepFootnote, call, keeping, tail, perform, exec}
+use Rattle.machine.specs.Command.{Step, write, capture, setext, mode, wait, column, medium, retain, Capture, buffer, drop, resume, resumeCode, capturing, Setext, hold, release, holding, Mode, set, leaveImage, openContainer, closeContainer, setting, Wait, keepRank, forgetRank, seenData, fences, countFence, marker, reference, first, awaiting, Column, columns, noColumns, nextColumn, firstColumn, counting, Medium, openMedia, closeMedia, store, emptyDestination, identify, seekDefinition, knowing, Keep, keepDefinition, footnoteLabel, keepFootnote, call, keeping, tail, perform, exec}
 use Rattle.machine_bounded.specs.Within.{setextOrder, mediumOrder, inOrder}
 use Rattle.machine_shape.specs.Shape.{Moved, idle}
 use Rattle.machine_shape.specs.Acts.{Ready, withCaptures, withTight, waiting, down1, up1, capturesBy, does, holds, modes, waits, counts, knows, keeps, act}
@@ -44,8 +44,8 @@ module _ (t : Turn) (s : State) where
   unfolding exec
   moded (set flag v) q = done-set idle s (setFlag flag v s) (rel-flags (withFlag flag v (s .flags)) s) refl
   moded leaveImage q = done-leave t s (q .media .0)
-  moded (tighten v) q = done-set (withTight up1 idle) s (setTight (v ∷ s .tight) s) (rel-tight (v ∷ s .tight) up1 s (omega arith)) refl
-  moded loosen q = done-set (withTight down1 idle) s (setTight (tail (s .tight)) s) (rel-tight (tail (s .tight)) down1 s (tail-moved (s .tight) (q .tight))) refl
+  moded (openContainer v) q = done-set (withTight up1 idle) s (setTight (v ∷ s .tight) s) (rel-tight (v ∷ s .tight) up1 s (omega arith)) refl
+  moded closeContainer q = done-set (withTight down1 idle) s (setTight (tail (s .tight)) s) (rel-tight (tail (s .tight)) down1 s (tail-moved (s .tight) (q .tight))) refl
 
   awaited : (x : Wait) → Ready (waits x) s → Awaited x t s → Done (awaiting x t s) true (waits x .does) s
   unfolding exec Right

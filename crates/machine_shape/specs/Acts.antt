@@ -5,7 +5,7 @@ use Prim.Native.Nat.{ℕ, _≤_}
 use lib.ListN.{length}
 use Rattle.machine.specs.State.{State}
 use Rattle.machine.specs.Media as M
-use Rattle.machine.specs.Command.{Step, write, capture, setext, mode, wait, column, medium, retain, Source, given, made, rank, start, alignment, part, Capture, buffer, drop, resume, resumeCode, Setext, hold, release, Mode, set, leaveImage, tighten, loosen, Wait, keepRank, forgetRank, seenData, fences, countFence, marker, reference, first, Column, columns, noColumns, nextColumn, firstColumn, Medium, openMedia, closeMedia, store, emptyDestination, identify, seekDefinition, Keep, keepDefinition, footnoteLabel, keepFootnote, call}
+use Rattle.machine.specs.Command.{Step, write, capture, setext, mode, wait, column, medium, retain, Source, given, made, rank, start, alignment, part, Capture, buffer, drop, resume, resumeCode, Setext, hold, release, Mode, set, leaveImage, openContainer, closeContainer, Wait, keepRank, forgetRank, seenData, fences, countFence, marker, reference, first, Column, columns, noColumns, nextColumn, firstColumn, Medium, openMedia, closeMedia, store, emptyDestination, identify, seekDefinition, Keep, keepDefinition, footnoteLabel, keepFootnote, call}
 use Rattle.machine_shape.specs.Facts.{waitFacts, mediaFacts}
 use Rattle.machine_shape.specs.Shape.{Say, sure, lost, Moves, moves, Stack, changed, over, gone, Shape, Mean, all, ats, keepAll, idle}
 
@@ -95,8 +95,8 @@ holds release = contract (1 ∷ []) (9 ∷ []) (waiting (2 ∷ []) (1 ∷ []))
 abbrev pub modes : Mode → Contract
 modes (set flag v) = does idle
 modes leaveImage = contract [] (0 ∷ []) idle
-modes (tighten v) = does (withTight up1 idle)
-modes loosen = does (withTight down1 idle)
+modes (openContainer v) = does (withTight up1 idle)
+modes closeContainer = does (withTight down1 idle)
 
 abbrev pub waits : Wait → Contract
 waits keepRank = does (waiting (0 ∷ []) [])

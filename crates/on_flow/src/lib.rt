@@ -32,7 +32,7 @@ pub fn on_exit_paragraph(c: Context, captures: &mut [u8], out: &mut [u8]) -> Con
 pub fn on_enter_block_quote(c: Context, captures: &mut [u8], out: &mut [u8]) -> Context
     ensures { λ r. ⌜ Keeps Any onEnterBlockQuote c (now (captures .entry)) (now (out .entry)) r (now (captures .exit)) (now (out .exit)) ⌝ }
 {
-    let tight = state_context::tighten(c, false);
+    let tight = state_context::open_container(c, false);
     let r = state_context::line_ending_if_needed(tight, captures, out);
     state_context::push(r, captures, out, b"<blockquote>")
 }
@@ -40,7 +40,7 @@ pub fn on_enter_block_quote(c: Context, captures: &mut [u8], out: &mut [u8]) -> 
 pub fn on_exit_block_quote(c: Context, captures: &mut [u8], out: &mut [u8]) -> Context
     ensures { λ r. ⌜ Keeps Any onExitBlockQuote c (now (captures .entry)) (now (out .entry)) r (now (captures .exit)) (now (out .exit)) ⌝ }
 {
-    let loose = state_context::loosen(c);
+    let loose = state_context::close_container(c);
     let line = state_context::line_ending_if_needed(loose, captures, out);
     let r = state_context::set_slurp(line, false);
     state_context::push(r, captures, out, b"</blockquote>")

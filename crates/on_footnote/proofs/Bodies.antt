@@ -11,7 +11,7 @@ use Rattle.machine.specs.Set.{setCaptures, setLabels, addFootnote}
 use Rattle.machine.specs.Turn.{Turn, strOf}
 use Rattle.machine.specs.Footnote.{splitLabels, keep}
 use Rattle.machine.specs.Command.{_▸_, exec}
-use Rattle.machine.specs.Words.{keepFootnote, loosen}
+use Rattle.machine.specs.Words.{keepFootnote, closeContainer}
 use Rattle.machine.proofs.Outcomes.{never, first-goes}
 use Rattle.machine_bounded.specs.Within.{within}
 use Rattle.machine_bounded.proofs.Bounds.{done, fits}
@@ -142,6 +142,6 @@ no-body {b = b} {text = text} o = record {
 }
 
 -- and the container goes
-pub loosens-body : {b k : Whole} {text work starts footnotes labels work′ footnotes′ : List ℕ} {x : Context} → OnFootnotes Roomy keepFootnote b text work starts footnotes labels k work′ footnotes′ → Sets loosen (k .context) x
-    → OnFootnotes Roomy (keepFootnote ▸ loosen) b text work starts footnotes labels (withContext x k) work′ footnotes′
-loosens-body {text = text} k l = record { on-footnotes = λ w i j f h. then (k .on-footnotes w i j f h) (sets-whole refl l .unlent text _) (λ a. tt) }
+pub closes-container-body : {b k : Whole} {text work starts footnotes labels work′ footnotes′ : List ℕ} {x : Context} → OnFootnotes Roomy keepFootnote b text work starts footnotes labels k work′ footnotes′ → Sets closeContainer (k .context) x
+    → OnFootnotes Roomy (keepFootnote ▸ closeContainer) b text work starts footnotes labels (withContext x k) work′ footnotes′
+closes-container-body {text = text} k l = record { on-footnotes = λ w i j f h. then (k .on-footnotes w i j f h) (sets-whole refl l .unlent text _) (λ a. tt) }

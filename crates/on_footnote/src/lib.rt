@@ -43,7 +43,7 @@ pub fn on_exit_gfm_footnote_call(
 pub fn on_enter_gfm_footnote_definition(c: Context) -> Context
     ensures { λ r. ⌜ Sets onEnterGfmFootnoteDefinition c r ⌝ }
 {
-    state_context::tighten(c, false)
+    state_context::open_container(c, false)
 }
 
 // A label is called: counted in an image's text too, but not written there.
@@ -137,7 +137,7 @@ pub fn on_exit_gfm_footnote_definition(
 {
     let k = keep_body(b, text, work, starts, footnotes, labels);
     let mut r = k;
-    r.context = state_context::loosen(k.context);
+    r.context = state_context::close_container(k.context);
     r
 }
 

@@ -14,7 +14,7 @@ use Rattle.machine.specs.Outcome.{go, _>>=_, need}
 use Rattle.machine.specs.Turn.{Turn, lookBack}
 use Rattle.machine.specs.Test.{isOrdered, isLoose, isTight, isTightParagraph, isEmptyItem, tightOf, test}
 use Rattle.machine.specs.Command.{whether}
-use Rattle.machine.specs.Words.{put, lineEnding, tighten, loosen}
+use Rattle.machine.specs.Words.{put, lineEnding, openContainer, closeContainer}
 use Rattle.machine.specs.OnList.{onExitList}
 use Rattle.machine.proofs.Outcomes.{never, first-goes}
 use Rattle.state_context.specs.declared.Context.{Context}
@@ -38,7 +38,7 @@ module _ {yes no : List ℕ} {c r : Context} {w o w′ o′ : List ℕ} {x : Boo
 pub by-order : {a b : String} {c r : Context} {w o w′ o′ : List ℕ} {x : Bool} → PushesByOrder x (bytes a) (bytes b) c w o r w′ o′ → Keeps (IsOrdered x) (whether isOrdered (put a) (put b)) c w o r w′ o′
 by-order {a} {b} k = k .pushes a b refl refl
 
-pub exits-list : {c line r q : Context} {w o w′ o′ w″ o″ : List ℕ} {x : Bool} → Sets loosen c line → Keeps Any lineEnding line w o r w′ o′ → PushesByOrder x (bytes "</ol>") (bytes "</ul>") r w′ o′ q w″ o″
+pub exits-list : {c line r q : Context} {w o w′ o′ w″ o″ : List ℕ} {x : Bool} → Sets closeContainer c line → Keeps Any lineEnding line w o r w′ o′ → PushesByOrder x (bytes "</ol>") (bytes "</ul>") r w′ o′ q w″ o″
     → Keeps (IsOrdered x) onExitList c w o q w″ o″
 unfolding onExitList
 exits-list k l m = seq (sets k) (seq (any l) (by-order m))
@@ -47,9 +47,9 @@ tells-loose : {c : Context} {x y : Bool} → Tells (OpensList x y) isLoose c y
 unfolding test
 tells-loose = record { tells = λ t w o b s z v r p. (let q : Event.isLoose (t .event) ≡ z = cc in sym q ∙ v .loose-is) }
 
-pub tightens : {c r : Context} {w o : List ℕ} {x : Bool} (loose : Bool) → Sets (tighten (not loose)) c r → Keeps (OpensList x loose) (whether isLoose (tighten false) (tighten true)) c w o r w o
-tightens true k = whether-yes tells-loose refl (sets k)
-tightens false k = whether-no tells-loose refl (sets k)
+pub opens-container : {c r : Context} {w o : List ℕ} {x : Bool} (loose : Bool) → Sets (openContainer (not loose)) c r → Keeps (OpensList x loose) (whether isLoose (openContainer false) (openContainer true)) c w o r w o
+opens-container true k = whether-yes tells-loose refl (sets k)
+opens-container false k = whether-no tells-loose refl (sets k)
 
 -- ---- the look back
 

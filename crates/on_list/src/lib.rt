@@ -36,7 +36,7 @@ pub fn on_enter_list(
 ) -> Context
     ensures { λ r. ⌜ Keeps (OpensList ordered loose) onEnterList c (now (captures .entry)) (now (out .entry)) r (now (captures .exit)) (now (out .exit)) ⌝ }
 {
-    let tight = state_context::tighten(c, !loose);
+    let tight = state_context::open_container(c, !loose);
     let line = state_context::line_ending_if_needed(tight, captures, out);
     let r = push_by_order(line, ordered, captures, out, b"<ol", b"<ul");
     state_context::set_first(r, true)
@@ -45,7 +45,7 @@ pub fn on_enter_list(
 pub fn on_exit_list(c: Context, ordered: bool, captures: &mut [u8], out: &mut [u8]) -> Context
     ensures { λ r. ⌜ Keeps (IsOrdered ordered) onExitList c (now (captures .entry)) (now (out .entry)) r (now (captures .exit)) (now (out .exit)) ⌝ }
 {
-    let loose = state_context::loosen(c);
+    let loose = state_context::close_container(c);
     let r = state_context::line_ending(loose, captures, out);
     push_by_order(r, ordered, captures, out, b"</ol>", b"</ul>")
 }

@@ -13,10 +13,10 @@ use event::EventIndex;
 // ---- events without a handler: they leave the state as it is, and a pass goes on at once
 
 // A bit for each name below 64, the lowest for 0, whose enter has no handler.
-const ENTERS: u64 = 0x0001_1E55_258D_6FFF;
+const IDLE_ENTERS: u64 = 0x0001_1E55_258D_6FFF;
 
 // The same for exits.
-const EXITS: u64 = 0x0301_0087;
+const IDLE_EXITS: u64 = 0x0301_0087;
 
 // Whether an event of this kind and name is known to have none.
 pub fn is_idle(kind: u8, name: u8) -> bool
@@ -26,9 +26,9 @@ pub fn is_idle(kind: u8, name: u8) -> bool
         return false;
     }
     if kind == Event::ENTER {
-        return ENTERS >> name & 1 == 1;
+        return IDLE_ENTERS >> name & 1 == 1;
     }
-    EXITS >> name & 1 == 1
+    IDLE_EXITS >> name & 1 == 1
 }
 
 // ---- the walk

@@ -14,7 +14,7 @@ use Rattle.machine.specs.Outcome.{go}
 use Rattle.machine.specs.Set.{setTight}
 use Rattle.machine.specs.Test.{isTight, isInContainer, tightOf, isEmpty, test}
 use Rattle.machine.specs.Command.{tail, exec}
-use Rattle.machine.specs.Words.{tighten, loosen}
+use Rattle.machine.specs.Words.{openContainer, closeContainer}
 use Rattle.machine_bounded.specs.Within.{within}
 use Rattle.machine_bounded.proofs.Bounds.{fits}
 use Rattle.state_context.specs.declared.Context.{Context}
@@ -33,7 +33,7 @@ abbrev withTight : Tight → Context → Context
 withTight x c = record { buffers = c .buffers; word = c .word; rank = c .rank; tight = x; table = c .table }
 
 module _ {c : Context} where
-  pub widens : {x : Bool} {y : Tight} → More x (c .tight) y → Sets (tighten x) c (withTight y c)
+  pub widens : {x : Bool} {y : Tight} → More x (c .tight) y → Sets (openContainer x) c (withTight y c)
   unfolding exec within
   widens {x} k =
       setting (λ s. setTight (x ∷ s .tight) s) (λ t s. refl)
@@ -41,9 +41,9 @@ module _ {c : Context} where
       let n : suc (length (s .tight)) ≤ 64 = fits (setTight (x ∷ s .tight) s) f .tight in
       record { stand = stands (r .stand) refl refl; flags = r .flags; waits = r .waits; tight = k .more (s .tight) (omega arith) (r .tight); table = r .table; fixed = r .fixed })
 
-  pub loosens : {y : Tight} → Fewer (c .tight) y → Sets loosen c (withTight y c)
+  pub closes-container : {y : Tight} → Fewer (c .tight) y → Sets closeContainer c (withTight y c)
   unfolding exec within
-  loosens k =
+  closes-container k =
       setting (λ s. setTight (tail (s .tight)) s) (λ t s. refl)
       (λ w o b s f r. record { stand = stands (r .stand) refl refl; flags = r .flags; waits = r .waits; tight = rw (← tail-is (s .tight)) (k .fewer (s .tight) (r .tight)); table = r .table; fixed = r .fixed })
 

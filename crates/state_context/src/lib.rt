@@ -4,7 +4,7 @@ ghost use mathlib.Core.Option.{none, some};
 ghost use Prim.Native.Nat.{_<_};
 ghost use Rattle.machine.specs.Set.{slurp, encode, raw, alt, head};
 ghost use Rattle.machine.specs.Test.{is, isTight, isInContainer, hasRank, hasSeenData, isFirstFence, isFencedOnce, isFenceMissing, isFirstMarker};
-ghost use Rattle.machine.specs.Words.{slice, buffer, drop, lineEnding, lineEndingIfNeeded, set, tighten, loosen, marker, forgetRank, fences, countFence, seenData, first};
+ghost use Rattle.machine.specs.Words.{slice, buffer, drop, lineEnding, lineEndingIfNeeded, set, openContainer, closeContainer, marker, forgetRank, fences, countFence, seenData, first};
 ghost use Rattle.state_context.specs.Rel.{Any, Sees, Keeps, Begins, Ends, Pushes, PushesTag, Begun, Sets, Tells, Ranks, MarkIs, ForgetsMarker, answerOf, answerDigit, markDigit, endingAt, namesAt, endingIn, namesIn, fixedIn};
 ghost use Rattle.state_context.specs.Private.{Digit, SetsFlag, TellsFlag, Starts};
 use character_reference::Marker;
@@ -340,8 +340,8 @@ pub fn set_head(c: Context, x: bool) -> Context
 // ---- containers
 
 // A container is opened.
-pub fn tighten(c: Context, x: bool) -> Context
-    ensures { λ r. ⌜ Sets (tighten x) c r ⌝ }
+pub fn open_container(c: Context, x: bool) -> Context
+    ensures { λ r. ⌜ Sets (openContainer x) c r ⌝ }
 {
     let mut r = c;
     r.tight = packed::more(c.tight, x);
@@ -349,8 +349,8 @@ pub fn tighten(c: Context, x: bool) -> Context
 }
 
 // The newest container goes.
-pub fn loosen(c: Context) -> Context
-    ensures { λ r. ⌜ Sets loosen c r ⌝ }
+pub fn close_container(c: Context) -> Context
+    ensures { λ r. ⌜ Sets closeContainer c r ⌝ }
 {
     let mut r = c;
     r.tight = packed::fewer(c.tight);

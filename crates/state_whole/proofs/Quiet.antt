@@ -17,7 +17,7 @@ use Rattle.machine.specs.Text.{codeOf}
 use Rattle.machine.specs.Media.{newestMedia, leaveAlt}
 use Rattle.machine.specs.Test.{test}
 use Rattle.machine.proofs.Outcomes.{never}
-use Rattle.machine.specs.Command.{Command, nothing, step, _▸_, whether, missingCells, Step, write, capture, setext, mode, wait, column, medium, retain, textOf, Capture, buffer, drop, resume, resumeCode, capturing, Mode, set, leaveImage, tighten, loosen, setting, Wait, keepRank, forgetRank, seenData, fences, countFence, marker, reference, first, awaiting, Column, columns, noColumns, nextColumn, firstColumn, counting, perform, repeat}
+use Rattle.machine.specs.Command.{Command, nothing, step, _▸_, whether, missingCells, Step, write, capture, setext, mode, wait, column, medium, retain, textOf, Capture, buffer, drop, resume, resumeCode, capturing, Mode, set, leaveImage, openContainer, closeContainer, setting, Wait, keepRank, forgetRank, seenData, fences, countFence, marker, reference, first, awaiting, Column, columns, noColumns, nextColumn, firstColumn, counting, perform, repeat}
 use Rattle.machine_bounded.specs.Within.{one, inOrder, within}
 use Rattle.machine_bounded.proofs.Bounds.{done}
 use Rattle.state_whole.specs.Quiet.{quietStep, isQuiet, Rests}
@@ -98,8 +98,8 @@ captured resumeCode s = taken s _ (λ b cs. binds s (asStr (codeOf (s .table .al
 moded : (x : Mode) (s : State) → Leaves s (setting x s)
 moded (set flag x) s = to s _ (record { media = refl; labels = refl; kept = refl; setext = refl })
 moded leaveImage s = left s
-moded (tighten x) s = to s _ (record { media = refl; labels = refl; kept = refl; setext = refl })
-moded loosen s = to s _ (record { media = refl; labels = refl; kept = refl; setext = refl })
+moded (openContainer x) s = to s _ (record { media = refl; labels = refl; kept = refl; setext = refl })
+moded closeContainer s = to s _ (record { media = refl; labels = refl; kept = refl; setext = refl })
 
 awaited : (x : Wait) (t : Turn) (s : State) → Leaves s (awaiting x t s)
 awaited keepRank t s = binds s (sliceOf (t .text) (spanOf (t .event))) _ (λ b. to s _ (record { media = refl; labels = refl; kept = refl; setext = refl }))

@@ -5,8 +5,8 @@ use Rattle.on_flow.proofs.on_enter_block_quote.Tie as tie
 use Rattle.machine.specs.OnFlow.{onEnterBlockQuote}
 use Rattle.state_context.proofs.Commands.{any, idle, sets, seq, puts, whether-yes, whether-no}
 
-tighten-requires : tie.Need-tighten-requires
-tighten-requires c κs = search needs
+open-container-requires : tie.Need-open-container-requires
+open-container-requires c κs = search needs
 
 line-ending-if-needed-requires : tie.Need-line-ending-if-needed-requires
 line-ending-if-needed-requires c κs = search needs
@@ -29,13 +29,13 @@ returns c =
     let c3 = c .before .before .before .before in
     let c2 = c3 .before .before .before .before .before .before .before .before in
     let c1 = c2 .before .before .before in
-    seq (sets (c1 .tighten .ensures)) (seq (c2 .line-ending-if-needed .ensures) (puts (c3 .push .ensures)))
+    seq (sets (c1 .open-container .ensures)) (seq (c2 .line-ending-if-needed .ensures) (puts (c3 .push .ensures)))
 
 pub on-enter-block-quote-spec : {M : Type 1} → statement M
 on-enter-block-quote-spec =
     tie.close
     (tie.spec
-    tighten-requires
+    open-container-requires
     line-ending-if-needed-requires
     slice-aggregate-push
     push-requires

@@ -5,8 +5,8 @@ use Rattle.on_flow.proofs.on_exit_block_quote.Tie as tie
 use Rattle.machine.specs.OnFlow.{onExitBlockQuote}
 use Rattle.state_context.proofs.Commands.{any, idle, sets, seq, puts, whether-yes, whether-no}
 
-loosen-requires : tie.Need-loosen-requires
-loosen-requires c κs = search needs
+close-container-requires : tie.Need-close-container-requires
+close-container-requires c κs = search needs
 
 line-ending-if-needed-requires : tie.Need-line-ending-if-needed-requires
 line-ending-if-needed-requires c κs = search needs
@@ -33,13 +33,13 @@ returns c =
     let c3 = c4 .before .before .before .before in
     let c2 = c3 .before .before .before .before .before in
     let c1 = c2 .before .before .before in
-    seq (sets (c1 .loosen .ensures)) (seq (c2 .line-ending-if-needed .ensures) (seq (sets (c3 .set-slurp .ensures)) (puts (c4 .push .ensures))))
+    seq (sets (c1 .close-container .ensures)) (seq (c2 .line-ending-if-needed .ensures) (seq (sets (c3 .set-slurp .ensures)) (puts (c4 .push .ensures))))
 
 pub on-exit-block-quote-spec : {M : Type 1} → statement M
 on-exit-block-quote-spec =
     tie.close
     (tie.spec
-    loosen-requires
+    close-container-requires
     line-ending-if-needed-requires
     set-slurp-requires
     slice-aggregate-push

@@ -5,10 +5,10 @@ use Rattle.on_list.proofs.on_enter_list.Tie as tie
 use native.Mathlib.Omega.{arith}
 use Rattle.machine.specs.OnList.{onEnterList}
 use Rattle.state_context.proofs.Commands.{any, narrow, seq, sets}
-use Rattle.on_list.proofs.Laws.{tightens, by-order}
+use Rattle.on_list.proofs.Laws.{opens-container, by-order}
 
-tighten-requires : tie.Need-tighten-requires
-tighten-requires c κs = search needs
+open-container-requires : tie.Need-open-container-requires
+open-container-requires c κs = search needs
 
 line-ending-if-needed-requires : tie.Need-line-ending-if-needed-requires
 line-ending-if-needed-requires c κs = search needs
@@ -44,13 +44,13 @@ returns c =
     let c3 = c4 .before .before .before .before .before in
     let c2 = c3 .before .before .before .before .before .before .before .before .before in
     let c1 = c2 .before .before .before in
-    seq (tightens _ (c1 .tighten .ensures)) (seq (any (c2 .line-ending-if-needed .ensures)) (seq (narrow (λ t v. v .ordered) (by-order (c3 .push-by-order .ensures))) (sets (c4 .set-first .ensures))))
+    seq (opens-container _ (c1 .open-container .ensures)) (seq (any (c2 .line-ending-if-needed .ensures)) (seq (narrow (λ t v. v .ordered) (by-order (c3 .push-by-order .ensures))) (sets (c4 .set-first .ensures))))
 
 pub on-enter-list-spec : {M : Type 1} → statement M
 on-enter-list-spec =
     tie.close
     (tie.spec
-    tighten-requires
+    open-container-requires
     line-ending-if-needed-requires
     slice-aggregate-push-by-order
     slice-aggregate-push-by-order-2

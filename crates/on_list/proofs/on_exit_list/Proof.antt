@@ -4,8 +4,8 @@ use Rattle.on_list.proofs.on_exit_list.Statement.{statement}
 use Rattle.on_list.proofs.on_exit_list.Tie as tie
 use Rattle.on_list.proofs.Laws.{exits-list}
 
-loosen-requires : tie.Need-loosen-requires
-loosen-requires c κs = search needs
+close-container-requires : tie.Need-close-container-requires
+close-container-requires c κs = search needs
 
 line-ending-requires : tie.Need-line-ending-requires
 line-ending-requires c κs = search needs
@@ -32,7 +32,7 @@ pub on-exit-list-spec : {M : Type 1} → statement M
 on-exit-list-spec =
     tie.close
     (tie.spec
-    loosen-requires
+    close-container-requires
     line-ending-requires
     slice-aggregate-push-by-order
     slice-aggregate-push-by-order-2

@@ -1,7 +1,7 @@
 -- By the bits.
 use borrow.Author.Needs.{needs}
-use Rattle.state_context.proofs.tighten.Statement.{statement}
-use Rattle.state_context.proofs.tighten.Tie as tie
+use Rattle.state_context.proofs.open_container.Statement.{statement}
+use Rattle.state_context.proofs.open_container.Tie as tie
 use Rattle.packed.proofs.more.Reads as more-reads
 use Rattle.state_context.proofs.Containers.{widens}
 
@@ -11,5 +11,5 @@ more-requires c κs = search needs
 returns : tie.Need-returns
 returns c = search widens
 
-pub tighten-spec : {M : Type 1} → statement M
-tighten-spec = tie.close (tie.spec more-requires returns)
+pub open-container-spec : {M : Type 1} → statement M
+open-container-spec = tie.close (tie.spec more-requires returns)
