@@ -18,29 +18,8 @@ loop-holds : tie.Need-loop-holds Inv-loop μ-loop
 unfolding added
 loop-holds c = search needs
 
-mul-lanes : tie.Need-mul-lanes Inv-loop μ-loop
-mul-lanes c = search needs
-
-element-copy-out-lanes : tie.Need-element-copy-out-lanes Inv-loop μ-loop
-element-copy-out-lanes c = search needs
-
-mul-lanes-2 : tie.Need-mul-lanes-2 Inv-loop μ-loop
-mul-lanes-2 c = search needs
-
-element-copy-out-lanes-2 : tie.Need-element-copy-out-lanes-2 Inv-loop μ-loop
-element-copy-out-lanes-2 c = search needs
-
 add-lanes : tie.Need-add-lanes Inv-loop μ-loop
 add-lanes c = search lane-fits
-
-element-write-lanes : tie.Need-element-write-lanes Inv-loop μ-loop
-element-write-lanes c = search needs
-
-add-lane : tie.Need-add-lane Inv-loop μ-loop
-add-lane c = search needs
-
-loop-less : tie.Need-loop-less Inv-loop μ-loop
-loop-less c = search needs
 
 loop-again : tie.Need-loop-again Inv-loop μ-loop
 loop-again c = search (lane-added, needs)
@@ -55,13 +34,13 @@ add-lanes-spec =
     Inv-loop
     μ-loop
     loop-holds
-    mul-lanes
-    element-copy-out-lanes
-    mul-lanes-2
-    element-copy-out-lanes-2
+    (λ c. search needs)
+    (λ c. search needs)
+    (λ c. search needs)
+    (λ c. search needs)
     add-lanes
-    element-write-lanes
-    add-lane
-    loop-less
+    (λ c. search needs)
+    (λ c. search needs)
+    (λ c. search needs)
     loop-again
     returns)

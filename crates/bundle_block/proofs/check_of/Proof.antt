@@ -14,47 +14,17 @@ Inv-loop front whole sum₀ place₀ sum place = sum + weighed place (drop place
 abbrev μ-loop : tie.MeasureT-loop
 μ-loop front whole sum₀ place₀ sum place = length front - place
 
-mul-whole : tie.Need-mul-whole Inv-loop μ-loop
-mul-whole c = search needs
-
-sub-weigh-parts : tie.Need-sub-weigh-parts Inv-loop μ-loop
-sub-weigh-parts c = search needs
-
-part-weigh-parts-start : tie.Need-part-weigh-parts-start Inv-loop μ-loop
-part-weigh-parts-start c = search needs
-
-part-weigh-parts-end : tie.Need-part-weigh-parts-end Inv-loop μ-loop
-part-weigh-parts-end c = search needs
-
 weigh-parts-requires : tie.Need-weigh-parts-requires Inv-loop μ-loop
 weigh-parts-requires c κs = search whole-rows
 
 loop-holds : tie.Need-loop-holds Inv-loop μ-loop
 loop-holds c = search rows-weighed
 
-cast-sum : tie.Need-cast-sum Inv-loop μ-loop
-cast-sum c = search needs
-
-add-sum : tie.Need-add-sum Inv-loop μ-loop
-add-sum c = search needs
-
-shared-slice-read-wide : tie.Need-shared-slice-read-wide Inv-loop μ-loop
-shared-slice-read-wide c = search needs
-
-wide-requires : tie.Need-wide-requires Inv-loop μ-loop
-wide-requires c κs = search needs
-
 mul-sum : tie.Need-mul-sum Inv-loop μ-loop
 mul-sum c = search (product-fits, check-fits)
 
 add-sum-2 : tie.Need-add-sum-2 Inv-loop μ-loop
 add-sum-2 c = search (weighed-fits, check-fits)
-
-add-place : tie.Need-add-place Inv-loop μ-loop
-add-place c = search needs
-
-loop-less : tie.Need-loop-less Inv-loop μ-loop
-loop-less c = search needs
 
 loop-again : tie.Need-loop-again Inv-loop μ-loop
 loop-again c = search weigh-one
@@ -68,19 +38,19 @@ check-of-spec =
     (tie.spec
     Inv-loop
     μ-loop
-    mul-whole
-    sub-weigh-parts
-    part-weigh-parts-start
-    part-weigh-parts-end
+    (λ c. search needs)
+    (λ c. search needs)
+    (λ c. search needs)
+    (λ c. search needs)
     weigh-parts-requires
     loop-holds
-    cast-sum
-    add-sum
-    shared-slice-read-wide
-    wide-requires
+    (λ c. search needs)
+    (λ c. search needs)
+    (λ c. search needs)
+    (λ c κs. search needs)
     mul-sum
     add-sum-2
-    add-place
-    loop-less
+    (λ c. search needs)
+    (λ c. search needs)
     loop-again
     returns)

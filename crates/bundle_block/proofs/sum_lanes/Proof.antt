@@ -14,26 +14,8 @@ Inv-loop lanes sum₀ lane₀ sum lane = (lane ≤ 16) × (sum + sumOf (drop lan
 abbrev μ-loop : tie.MeasureT-loop
 μ-loop lanes sum₀ lane₀ sum lane = 16 - lane
 
-loop-holds : tie.Need-loop-holds Inv-loop μ-loop
-loop-holds c = search needs
-
-mul-wider : tie.Need-mul-wider Inv-loop μ-loop
-mul-wider c = search needs
-
-element-copy-out-wider : tie.Need-element-copy-out-wider Inv-loop μ-loop
-element-copy-out-wider c = search needs
-
-wider-requires : tie.Need-wider-requires Inv-loop μ-loop
-wider-requires c κs = search needs
-
 add-sum : tie.Need-add-sum Inv-loop μ-loop
 add-sum c = search (sum-fits, needs)
-
-add-lane : tie.Need-add-lane Inv-loop μ-loop
-add-lane c = search needs
-
-loop-less : tie.Need-loop-less Inv-loop μ-loop
-loop-less c = search needs
 
 loop-again : tie.Need-loop-again Inv-loop μ-loop
 loop-again c = search (sum-one, needs)
@@ -47,12 +29,12 @@ sum-lanes-spec =
     (tie.spec
     Inv-loop
     μ-loop
-    loop-holds
-    mul-wider
-    element-copy-out-wider
-    wider-requires
+    (λ c. search needs)
+    (λ c. search needs)
+    (λ c. search needs)
+    (λ c κs. search needs)
     add-sum
-    add-lane
-    loop-less
+    (λ c. search needs)
+    (λ c. search needs)
     loop-again
     returns)

@@ -15,32 +15,11 @@ Inv-loop lanes place sum₀ weight₀ lane₀ sum weight lane = (lane ≤ 16) ×
 abbrev μ-loop : tie.MeasureT-loop
 μ-loop lanes place sum₀ weight₀ lane₀ sum weight lane = 16 - lane
 
-loop-holds : tie.Need-loop-holds Inv-loop μ-loop
-loop-holds c = search needs
-
-add-weight : tie.Need-add-weight Inv-loop μ-loop
-add-weight c = search needs
-
-mul-wider : tie.Need-mul-wider Inv-loop μ-loop
-mul-wider c = search needs
-
-element-copy-out-wider : tie.Need-element-copy-out-wider Inv-loop μ-loop
-element-copy-out-wider c = search needs
-
-wider-requires : tie.Need-wider-requires Inv-loop μ-loop
-wider-requires c κs = search needs
-
 mul-sum : tie.Need-mul-sum Inv-loop μ-loop
 mul-sum c = search (product-fits, needs)
 
 add-sum : tie.Need-add-sum Inv-loop μ-loop
 add-sum c = search (weighed-fits, needs)
-
-add-lane : tie.Need-add-lane Inv-loop μ-loop
-add-lane c = search needs
-
-loop-less : tie.Need-loop-less Inv-loop μ-loop
-loop-less c = search needs
 
 loop-again : tie.Need-loop-again Inv-loop μ-loop
 loop-again c = search (weigh-one, needs)
@@ -54,14 +33,14 @@ weigh-lanes-spec =
     (tie.spec
     Inv-loop
     μ-loop
-    loop-holds
-    add-weight
-    mul-wider
-    element-copy-out-wider
-    wider-requires
+    (λ c. search needs)
+    (λ c. search needs)
+    (λ c. search needs)
+    (λ c. search needs)
+    (λ c κs. search needs)
     mul-sum
     add-sum
-    add-lane
-    loop-less
+    (λ c. search needs)
+    (λ c. search needs)
     loop-again
     returns)

@@ -18,32 +18,11 @@ abbrev μ-loop : tie.MeasureT-loop
 loop-holds : tie.Need-loop-holds Inv-loop μ-loop
 loop-holds c = search (weigh-none, needs)
 
-add-least : tie.Need-add-least Inv-loop μ-loop
-add-least c = search needs
-
-least-requires : tie.Need-least-requires Inv-loop μ-loop
-least-requires c κs = search needs
-
-sub-weigh-rows : tie.Need-sub-weigh-rows Inv-loop μ-loop
-sub-weigh-rows c = search needs
-
-part-weigh-rows-start : tie.Need-part-weigh-rows-start Inv-loop μ-loop
-part-weigh-rows-start c = search needs
-
-part-weigh-rows-end : tie.Need-part-weigh-rows-end Inv-loop μ-loop
-part-weigh-rows-end c = search needs
-
-cast-weigh-rows : tie.Need-cast-weigh-rows Inv-loop μ-loop
-cast-weigh-rows c = search needs
-
 weigh-rows-requires : tie.Need-weigh-rows-requires Inv-loop μ-loop
 weigh-rows-requires c κs = search (part-rows, needs)
 
 add-sum : tie.Need-add-sum Inv-loop μ-loop
 add-sum c = search (part-fits, check-fits)
-
-loop-less : tie.Need-loop-less Inv-loop μ-loop
-loop-less c = search needs
 
 loop-again : tie.Need-loop-again Inv-loop μ-loop
 loop-again c = (omega arith, omega arith, search part-weighed)
@@ -58,14 +37,14 @@ weigh-parts-spec =
     Inv-loop
     μ-loop
     loop-holds
-    add-least
-    least-requires
-    sub-weigh-rows
-    part-weigh-rows-start
-    part-weigh-rows-end
-    cast-weigh-rows
+    (λ c. search needs)
+    (λ c κs. search needs)
+    (λ c. search needs)
+    (λ c. search needs)
+    (λ c. search needs)
+    (λ c. search needs)
     weigh-rows-requires
     add-sum
-    loop-less
+    (λ c. search needs)
     loop-again
     returns)

@@ -14,38 +14,17 @@ abbrev μ-loop : tie.MeasureT-loop
 loop-holds : tie.Need-loop-holds Inv-loop μ-loop
 loop-holds c = search counted-none
 
-sub-at : tie.Need-sub-at Inv-loop μ-loop
-sub-at c = search needs
-
 add-lanes-requires : tie.Need-add-lanes-requires Inv-loop μ-loop
 add-lanes-requires c κs = search by-row-fits
 
-add-add-row : tie.Need-add-add-row Inv-loop μ-loop
-add-add-row c = search needs
-
-sub-add-row : tie.Need-sub-add-row Inv-loop μ-loop
-sub-add-row c = search needs
-
-part-add-row-start : tie.Need-part-add-row-start Inv-loop μ-loop
-part-add-row-start c = search needs
-
-part-add-row-end : tie.Need-part-add-row-end Inv-loop μ-loop
-part-add-row-end c = search needs
-
 add-row-requires : tie.Need-add-row-requires Inv-loop μ-loop
 add-row-requires c κs = search (row-length, once-fits)
-
-loop-less : tie.Need-loop-less Inv-loop μ-loop
-loop-less c = search needs
 
 loop-again : tie.Need-loop-again Inv-loop μ-loop
 loop-again c = search counted-row
 
 weigh-lanes-requires : tie.Need-weigh-lanes-requires Inv-loop μ-loop
 weigh-lanes-requires c κs = search (once-small, weighed-small, needs)
-
-cast-result : tie.Need-cast-result Inv-loop μ-loop
-cast-result c = search needs
 
 sum-lanes-requires : tie.Need-sum-lanes-requires Inv-loop μ-loop
 sum-lanes-requires c κs = search (by-row-small, weighed-small, needs)
@@ -66,17 +45,17 @@ weigh-rows-spec =
     Inv-loop
     μ-loop
     loop-holds
-    sub-at
+    (λ c. search needs)
     add-lanes-requires
-    add-add-row
-    sub-add-row
-    part-add-row-start
-    part-add-row-end
+    (λ c. search needs)
+    (λ c. search needs)
+    (λ c. search needs)
+    (λ c. search needs)
     add-row-requires
-    loop-less
+    (λ c. search needs)
     loop-again
     weigh-lanes-requires
-    cast-result
+    (λ c. search needs)
     sum-lanes-requires
     mul-result
     add-result

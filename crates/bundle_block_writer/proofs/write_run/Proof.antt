@@ -18,41 +18,8 @@ abbrev μ-loop : tie.MeasureT-loop
 loop-holds : tie.Need-loop-holds Inv-loop μ-loop
 loop-holds c = search (all, needs)
 
-sub-least : tie.Need-sub-least Inv-loop μ-loop
-sub-least c = search needs
-
-least-requires : tie.Need-least-requires Inv-loop μ-loop
-least-requires c κs = search needs
-
-add-next : tie.Need-add-next Inv-loop μ-loop
-add-next c = search needs
-
-mul-write-block : tie.Need-mul-write-block Inv-loop μ-loop
-mul-write-block c = search needs
-
-sub-write-block : tie.Need-sub-write-block Inv-loop μ-loop
-sub-write-block c = search needs
-
-part-write-block-start : tie.Need-part-write-block-start Inv-loop μ-loop
-part-write-block-start c = search needs
-
-part-write-block-end : tie.Need-part-write-block-end Inv-loop μ-loop
-part-write-block-end c = search needs
-
-write-block-requires : tie.Need-write-block-requires Inv-loop μ-loop
-write-block-requires c κs = search needs
-
-add-index : tie.Need-add-index Inv-loop μ-loop
-add-index c = search needs
-
-loop-less : tie.Need-loop-less Inv-loop μ-loop
-loop-less c = search needs
-
 loop-again : tie.Need-loop-again Inv-loop μ-loop
 loop-again c = search (run-step, needs)
-
-same-length : tie.Need-same-length Inv-loop μ-loop
-same-length c = search needs
 
 returns : tie.Need-returns Inv-loop μ-loop
 returns c = search run-end
@@ -64,16 +31,16 @@ write-run-spec =
     Inv-loop
     μ-loop
     loop-holds
-    sub-least
-    least-requires
-    add-next
-    mul-write-block
-    sub-write-block
-    part-write-block-start
-    part-write-block-end
-    write-block-requires
-    add-index
-    loop-less
+    (λ c. search needs)
+    (λ c κs. search needs)
+    (λ c. search needs)
+    (λ c. search needs)
+    (λ c. search needs)
+    (λ c. search needs)
+    (λ c. search needs)
+    (λ c κs. search needs)
+    (λ c. search needs)
+    (λ c. search needs)
     loop-again
-    same-length
+    (λ c. search needs)
     returns)

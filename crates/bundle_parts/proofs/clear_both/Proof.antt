@@ -4,21 +4,9 @@ use borrow.Author.Needs.{needs}
 use Rattle.bundle_parts.proofs.clear_both.Statement.{statement}
 use Rattle.bundle_parts.proofs.clear_both.Tie as tie
 
-clear-requires : tie.Need-clear-requires
-clear-requires c κs = search needs
-
-clear-requires-2 : tie.Need-clear-requires-2
-clear-requires-2 c κs = search needs
-
-same-length : tie.Need-same-length
-same-length c = search needs
-
-same-length-2 : tie.Need-same-length-2
-same-length-2 c = search needs
-
 returns : tie.Need-returns
 returns c = search wiped
 
 pub clear-both-spec : {M : Type 1} → statement M
 clear-both-spec =
-    tie.close (tie.spec clear-requires clear-requires-2 same-length same-length-2 returns)
+    tie.close (tie.spec (λ c κs. search needs) (λ c κs. search needs) (λ c. search needs) (λ c. search needs) returns)

@@ -5,32 +5,8 @@ use borrow.Author.Needs.{needs}
 use Rattle.bundle_parts.proofs.take_more.Statement.{statement}
 use Rattle.bundle_parts.proofs.take_more.Tie as tie
 
-sub-least : tie.Need-sub-least
-sub-least c = search needs
-
-least-requires : tie.Need-least-requires
-least-requires c κs = search needs
-
-begin-requires : tie.Need-begin-requires
-begin-requires c κs = search needs
-
-take-requires : tie.Need-take-requires
-take-requires c κs = search needs
-
-same-length : tie.Need-same-length
-same-length c = search needs
-
-same-length-2 : tie.Need-same-length-2
-same-length-2 c = search needs
-
 returns : tie.Need-returns
 returns c = search more-first
-
-is-whole-requires : tie.Need-is-whole-requires
-is-whole-requires c κs = search needs
-
-bare-requires : tie.Need-bare-requires
-bare-requires c κs = search needs
 
 returns-2 : tie.Need-returns-2
 returns-2 c =
@@ -43,12 +19,6 @@ returns-2 c =
 join-requires : tie.Need-join-requires
 join-requires c κs = (search needs, sym (c .before .before .before .before .is-whole .ensures) ∙ c .before .before .before .if2 .left, search needs)
 
-same-length-3 : tie.Need-same-length-3
-same-length-3 c = search needs
-
-same-length-4 : tie.Need-same-length-4
-same-length-4 c = search needs
-
 returns-3 : tie.Need-returns-3
 returns-3 c =
     let given = c .before .before .before .before .before .before .before .before .before .before in
@@ -60,17 +30,17 @@ pub take-more-spec : {M : Type 1} → statement M
 take-more-spec =
     tie.close
     (tie.spec
-    sub-least
-    least-requires
-    begin-requires
-    take-requires
-    same-length
-    same-length-2
+    (λ c. search needs)
+    (λ c κs. search needs)
+    (λ c κs. search needs)
+    (λ c κs. search needs)
+    (λ c. search needs)
+    (λ c. search needs)
     returns
-    is-whole-requires
-    bare-requires
+    (λ c κs. search needs)
+    (λ c κs. search needs)
     returns-2
     join-requires
-    same-length-3
-    same-length-4
+    (λ c. search needs)
+    (λ c. search needs)
     returns-3)

@@ -4,38 +4,17 @@ use borrow.Author.Needs.{needs}
 use Rattle.bundle_read.proofs.judge_bundle.Statement.{statement}
 use Rattle.bundle_read.proofs.judge_bundle.Tie as tie
 
-judge-length-requires : tie.Need-judge-length-requires
-judge-length-requires c κs = search needs
-
-enum-told : tie.Need-enum-told
-enum-told c = search needs
-
-enum-told-2 : tie.Need-enum-told-2
-enum-told-2 c = search needs
-
 returns : tie.Need-returns
 returns c = search length-first
 
 judge-header-requires : tie.Need-judge-header-requires
 judge-header-requires c κs = search whole-blocks
 
-enum-told-3 : tie.Need-enum-told-3
-enum-told-3 c = search needs
-
-enum-told-4 : tie.Need-enum-told-4
-enum-told-4 c = search needs
-
 returns-2 : tie.Need-returns-2
 returns-2 c = search header-next
 
 judge-count-requires : tie.Need-judge-count-requires
 judge-count-requires c κs = search whole-blocks
-
-enum-told-5 : tie.Need-enum-told-5
-enum-told-5 c = search needs
-
-enum-told-6 : tie.Need-enum-told-6
-enum-told-6 c = search needs
 
 returns-3 : tie.Need-returns-3
 returns-3 c = search count-next
@@ -50,17 +29,17 @@ pub judge-bundle-spec : {M : Type 1} → statement M
 judge-bundle-spec =
     tie.close
     (tie.spec
-    judge-length-requires
-    enum-told
-    enum-told-2
+    (λ c κs. search needs)
+    (λ c. search needs)
+    (λ c. search needs)
     returns
     judge-header-requires
-    enum-told-3
-    enum-told-4
+    (λ c. search needs)
+    (λ c. search needs)
     returns-2
     judge-count-requires
-    enum-told-5
-    enum-told-6
+    (λ c. search needs)
+    (λ c. search needs)
     returns-3
     judge-runs-requires
     returns-4)

@@ -17,44 +17,8 @@ abbrev μ-loop : tie.MeasureT-loop
 loop-holds : tie.Need-loop-holds Inv-loop μ-loop
 loop-holds c = search (held-none, needs)
 
-least-requires : tie.Need-least-requires Inv-loop μ-loop
-least-requires c κs = search needs
-
-mul-from : tie.Need-mul-from Inv-loop μ-loop
-mul-from c = search needs
-
-add-from : tie.Need-add-from Inv-loop μ-loop
-add-from c = search needs
-
-add-put-all : tie.Need-add-put-all Inv-loop μ-loop
-add-put-all c = search needs
-
-sub-put-all : tie.Need-sub-put-all Inv-loop μ-loop
-sub-put-all c = search needs
-
-part-put-all-start : tie.Need-part-put-all-start Inv-loop μ-loop
-part-put-all-start c = search needs
-
-part-put-all-end : tie.Need-part-put-all-end Inv-loop μ-loop
-part-put-all-end c = search needs
-
-put-all-requires : tie.Need-put-all-requires Inv-loop μ-loop
-put-all-requires c κs = search needs
-
-add-i : tie.Need-add-i Inv-loop μ-loop
-add-i c = search needs
-
-sub-left : tie.Need-sub-left Inv-loop μ-loop
-sub-left c = search needs
-
-loop-less : tie.Need-loop-less Inv-loop μ-loop
-loop-less c = search needs
-
 loop-again : tie.Need-loop-again Inv-loop μ-loop
 loop-again c = search (held-step, needs)
-
-same-length : tie.Need-same-length Inv-loop μ-loop
-same-length c = search needs
 
 returns : tie.Need-returns Inv-loop μ-loop
 returns c = search held-end
@@ -66,17 +30,17 @@ copy-run-spec =
     Inv-loop
     μ-loop
     loop-holds
-    least-requires
-    mul-from
-    add-from
-    add-put-all
-    sub-put-all
-    part-put-all-start
-    part-put-all-end
-    put-all-requires
-    add-i
-    sub-left
-    loop-less
+    (λ c κs. search needs)
+    (λ c. search needs)
+    (λ c. search needs)
+    (λ c. search needs)
+    (λ c. search needs)
+    (λ c. search needs)
+    (λ c. search needs)
+    (λ c κs. search needs)
+    (λ c. search needs)
+    (λ c. search needs)
+    (λ c. search needs)
     loop-again
-    same-length
+    (λ c. search needs)
     returns)

@@ -4,17 +4,8 @@ use borrow.Author.Needs.{needs}
 use Rattle.bundle_run.proofs.fill_run.Statement.{statement}
 use Rattle.bundle_run.proofs.fill_run.Tie as tie
 
-copy-run-requires : tie.Need-copy-run-requires
-copy-run-requires c κs = search needs
-
-clear-requires : tie.Need-clear-requires
-clear-requires c κs = search needs
-
-same-length : tie.Need-same-length
-same-length c = search needs
-
 returns : tie.Need-returns
 returns c = search run-filled
 
 pub fill-run-spec : {M : Type 1} → statement M
-fill-run-spec = tie.close (tie.spec copy-run-requires clear-requires same-length returns)
+fill-run-spec = tie.close (tie.spec (λ c κs. search needs) (λ c κs. search needs) (λ c. search needs) returns)

@@ -15,47 +15,8 @@ Inv-loop blocks edition kind room start end used index₀ at₀ left₀ index at
 abbrev μ-loop : tie.MeasureT-loop
 μ-loop blocks edition kind room start end used index₀ at₀ left₀ index at left = end - index
 
-loop-holds : tie.Need-loop-holds Inv-loop μ-loop
-loop-holds c = search needs
-
-least-requires : tie.Need-least-requires Inv-loop μ-loop
-least-requires c κs = search needs
-
-add-judge-block : tie.Need-add-judge-block Inv-loop μ-loop
-add-judge-block c = search needs
-
-sub-judge-block : tie.Need-sub-judge-block Inv-loop μ-loop
-sub-judge-block c = search needs
-
-part-judge-block-start : tie.Need-part-judge-block-start Inv-loop μ-loop
-part-judge-block-start c = search needs
-
-part-judge-block-end : tie.Need-part-judge-block-end Inv-loop μ-loop
-part-judge-block-end c = search needs
-
-judge-block-requires : tie.Need-judge-block-requires Inv-loop μ-loop
-judge-block-requires c κs = search needs
-
-enum-told : tie.Need-enum-told Inv-loop μ-loop
-enum-told c = search needs
-
-enum-told-2 : tie.Need-enum-told-2 Inv-loop μ-loop
-enum-told-2 c = search needs
-
 returns : tie.Need-returns Inv-loop μ-loop
 returns c = search run-bad
-
-add-index : tie.Need-add-index Inv-loop μ-loop
-add-index c = search needs
-
-add-at : tie.Need-add-at Inv-loop μ-loop
-add-at c = search needs
-
-sub-left : tie.Need-sub-left Inv-loop μ-loop
-sub-left c = search needs
-
-loop-less : tie.Need-loop-less Inv-loop μ-loop
-loop-less c = search needs
 
 loop-again : tie.Need-loop-again Inv-loop μ-loop
 loop-again c =
@@ -73,19 +34,19 @@ judge-run-spec =
     (tie.spec
     Inv-loop
     μ-loop
-    loop-holds
-    least-requires
-    add-judge-block
-    sub-judge-block
-    part-judge-block-start
-    part-judge-block-end
-    judge-block-requires
-    enum-told
-    enum-told-2
+    (λ c. search needs)
+    (λ c κs. search needs)
+    (λ c. search needs)
+    (λ c. search needs)
+    (λ c. search needs)
+    (λ c. search needs)
+    (λ c κs. search needs)
+    (λ c. search needs)
+    (λ c. search needs)
     returns
-    add-index
-    add-at
-    sub-left
-    loop-less
+    (λ c. search needs)
+    (λ c. search needs)
+    (λ c. search needs)
+    (λ c. search needs)
     loop-again
     returns-2)

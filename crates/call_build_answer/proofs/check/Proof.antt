@@ -7,11 +7,8 @@ use Rattle.call_build_answer.proofs.check.Tie as tie
 returns : tie.Need-returns
 returns c = search short-work
 
-check-requires : tie.Need-check-requires
-check-requires c κs = search needs
-
 returns-2 : tie.Need-returns-2
 returns-2 c = search by-checker
 
 pub check-spec : {M : Type 1} → statement M
-check-spec = tie.close (tie.spec returns check-requires returns-2)
+check-spec = tie.close (tie.spec returns (λ c κs. search needs) returns-2)

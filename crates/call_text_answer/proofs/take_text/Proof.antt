@@ -7,9 +7,6 @@ use Rattle.call_text_answer.proofs.take_text.Tie as tie
 returns : tie.Need-returns
 returns c = search too-long
 
-is-utf8-requires : tie.Need-is-utf8-requires
-is-utf8-requires c κs = search needs
-
 returns-2 : tie.Need-returns-2
 returns-2 c = search taken
 
@@ -17,4 +14,4 @@ returns-3 : tie.Need-returns-3
 returns-3 c = search not-utf8
 
 pub take-text-spec : {M : Type 1} → statement M
-take-text-spec = tie.close (tie.spec returns is-utf8-requires returns-2 returns-3)
+take-text-spec = tie.close (tie.spec returns (λ c κs. search needs) returns-2 returns-3)

@@ -4,9 +4,6 @@ use borrow.Author.Needs.{needs}
 use Rattle.character_reference.proofs.code_of.Statement.{statement}
 use Rattle.character_reference.proofs.code_of.Tie as tie
 
-is-replaced-requires : tie.Need-is-replaced-requires
-is-replaced-requires c κs = search needs
-
 returns : tie.Need-returns
 returns c = search replaced
 
@@ -14,4 +11,4 @@ returns-2 : tie.Need-returns-2
 returns-2 c = search itself
 
 pub code-of-spec : {M : Type 1} → statement M
-code-of-spec = tie.close (tie.spec is-replaced-requires returns returns-2)
+code-of-spec = tie.close (tie.spec (λ c κs. search needs) returns returns-2)

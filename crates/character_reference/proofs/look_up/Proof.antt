@@ -15,20 +15,8 @@ abbrev μ-loop : tie.MeasureT-loop
 loop-holds : tie.Need-loop-holds Inv-loop μ-loop
 loop-holds c = search whole
 
-sub-k : tie.Need-sub-k Inv-loop μ-loop
-sub-k c = search needs
-
-add-k : tie.Need-add-k Inv-loop μ-loop
-add-k c = search needs
-
 order-at-requires : tie.Need-order-at-requires Inv-loop μ-loop
 order-at-requires c κs = search there
-
-enum-told : tie.Need-enum-told Inv-loop μ-loop
-enum-told c = search needs
-
-mul-t12 : tie.Need-mul-t12 Inv-loop μ-loop
-mul-t12 c = search needs
 
 shared-slice-read-t14 : tie.Need-shared-slice-read-t14 Inv-loop μ-loop
 shared-slice-read-t14 c = search in-table
@@ -39,23 +27,8 @@ cast-t15 c = let l = c .before .before .before .before .before .loop in omega (a
 returns : tie.Need-returns Inv-loop μ-loop
 returns c = search found
 
-enum-told-2 : tie.Need-enum-told-2 Inv-loop μ-loop
-enum-told-2 c = search needs
-
-loop-less : tie.Need-loop-less Inv-loop μ-loop
-loop-less c = search needs
-
 loop-again : tie.Need-loop-again Inv-loop μ-loop
 loop-again c = search lower
-
-enum-told-3 : tie.Need-enum-told-3 Inv-loop μ-loop
-enum-told-3 c = search needs
-
-add-low : tie.Need-add-low Inv-loop μ-loop
-add-low c = search needs
-
-loop-less-2 : tie.Need-loop-less-2 Inv-loop μ-loop
-loop-less-2 c = search needs
 
 loop-again-2 : tie.Need-loop-again-2 Inv-loop μ-loop
 loop-again-2 c = search higher
@@ -70,19 +43,19 @@ look-up-spec =
     Inv-loop
     μ-loop
     loop-holds
-    sub-k
-    add-k
+    (λ c. search needs)
+    (λ c. search needs)
     order-at-requires
-    enum-told
-    mul-t12
+    (λ c. search needs)
+    (λ c. search needs)
     shared-slice-read-t14
     cast-t15
     returns
-    enum-told-2
-    loop-less
+    (λ c. search needs)
+    (λ c. search needs)
     loop-again
-    enum-told-3
-    add-low
-    loop-less-2
+    (λ c. search needs)
+    (λ c. search needs)
+    (λ c. search needs)
     loop-again-2
     returns-2)

@@ -23,12 +23,6 @@ returns-2 c = search too-many
 loop-holds : tie.Need-loop-holds Inv-loop μ-loop
 loop-holds c = search (all-left, needs)
 
-shared-slice-read-digit-value : tie.Need-shared-slice-read-digit-value Inv-loop μ-loop
-shared-slice-read-digit-value c = search needs
-
-digit-value-requires : tie.Need-digit-value-requires Inv-loop μ-loop
-digit-value-requires c κs = search needs
-
 returns-3 : tie.Need-returns-3 Inv-loop μ-loop
 returns-3 c = search no-digit
 
@@ -38,17 +32,8 @@ mul-n c = search product-fits
 add-n : tie.Need-add-n Inv-loop μ-loop
 add-n c = search sum-fits
 
-add-i : tie.Need-add-i Inv-loop μ-loop
-add-i c = search needs
-
-loop-less : tie.Need-loop-less Inv-loop μ-loop
-loop-less c = search needs
-
 loop-again : tie.Need-loop-again Inv-loop μ-loop
 loop-again c = search (next-digit, grows)
-
-code-of-requires : tie.Need-code-of-requires Inv-loop μ-loop
-code-of-requires c κs = search needs
 
 returns-4 : tie.Need-returns-4 Inv-loop μ-loop
 returns-4 c = search no-digit-left
@@ -62,13 +47,13 @@ numeral-of-spec =
     returns
     returns-2
     loop-holds
-    shared-slice-read-digit-value
-    digit-value-requires
+    (λ c. search needs)
+    (λ c κs. search needs)
     returns-3
     mul-n
     add-n
-    add-i
-    loop-less
+    (λ c. search needs)
+    (λ c. search needs)
     loop-again
-    code-of-requires
+    (λ c κs. search needs)
     returns-4)

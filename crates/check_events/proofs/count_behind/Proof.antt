@@ -8,12 +8,6 @@ use Rattle.check_events.proofs.count_behind.Tie as tie
 returns : tie.Need-returns
 returns c = search step-over
 
-count-holds-requires : tie.Need-count-holds-requires
-count-holds-requires c κs = search needs
-
-counted-behind-requires : tie.Need-counted-behind-requires
-counted-behind-requires c κs = search needs
-
 returns-2 : tie.Need-returns-2
 returns-2 c = search (step-on, stays-few)
 
@@ -21,4 +15,4 @@ returns-3 : tie.Need-returns-3
 returns-3 c = search step-breaks
 
 pub count-behind-spec : {M : Type 1} → statement M
-count-behind-spec = tie.close (tie.spec returns count-holds-requires counted-behind-requires returns-2 returns-3)
+count-behind-spec = tie.close (tie.spec returns (λ c κs. search needs) (λ c κs. search needs) returns-2 returns-3)

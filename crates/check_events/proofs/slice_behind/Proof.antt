@@ -7,12 +7,6 @@ use Rattle.check_events.proofs.slice_behind.Tie as tie
 returns : tie.Need-returns
 returns c = search step-over
 
-event-holds-requires : tie.Need-event-holds-requires
-event-holds-requires c κs = search needs
-
-seen-behind-requires : tie.Need-seen-behind-requires
-seen-behind-requires c κs = search needs
-
 returns-2 : tie.Need-returns-2
 returns-2 c = search step-on
 
@@ -20,4 +14,4 @@ returns-3 : tie.Need-returns-3
 returns-3 c = search step-breaks
 
 pub slice-behind-spec : {M : Type 1} → statement M
-slice-behind-spec = tie.close (tie.spec returns event-holds-requires seen-behind-requires returns-2 returns-3)
+slice-behind-spec = tie.close (tie.spec returns (λ c κs. search needs) (λ c κs. search needs) returns-2 returns-3)

@@ -12,26 +12,8 @@ Inv-loop text events at count later₀ later = FieldsTo text events later
 abbrev μ-loop : tie.MeasureT-loop
 μ-loop text events at count later₀ later = count - later
 
-count-requires : tie.Need-count-requires Inv-loop μ-loop
-count-requires c κs = search needs
-
-loop-holds : tie.Need-loop-holds Inv-loop μ-loop
-loop-holds c = search needs
-
-read-requires : tie.Need-read-requires Inv-loop μ-loop
-read-requires c κs = search needs
-
-fields-hold-requires : tie.Need-fields-hold-requires Inv-loop μ-loop
-fields-hold-requires c κs = search needs
-
 returns : tie.Need-returns Inv-loop μ-loop
 returns c = search fields-at
-
-add-later : tie.Need-add-later Inv-loop μ-loop
-add-later c = search needs
-
-loop-less : tie.Need-loop-less Inv-loop μ-loop
-loop-less c = search needs
 
 loop-again : tie.Need-loop-again Inv-loop μ-loop
 loop-again c = search fields-next
@@ -45,12 +27,12 @@ unnested-spec =
     (tie.spec
     Inv-loop
     μ-loop
-    count-requires
-    loop-holds
-    read-requires
-    fields-hold-requires
+    (λ c κs. search needs)
+    (λ c. search needs)
+    (λ c κs. search needs)
+    (λ c κs. search needs)
     returns
-    add-later
-    loop-less
+    (λ c. search needs)
+    (λ c. search needs)
     loop-again
     returns-2)

@@ -15,23 +15,8 @@ Inv-loop text events states entries names₀ behind₀ count s₀ n₀ depth₀ 
 abbrev μ-loop : tie.MeasureT-loop
 μ-loop text events states entries names₀ behind₀ count s₀ n₀ depth₀ here₀ i₀ names behind s n depth here i = count - i
 
-count-requires : tie.Need-count-requires Inv-loop μ-loop
-count-requires c κs = search needs
-
-no-slices-requires : tie.Need-no-slices-requires Inv-loop μ-loop
-no-slices-requires c κs = search needs
-
-no-counts-requires : tie.Need-no-counts-requires Inv-loop μ-loop
-no-counts-requires c κs = search needs
-
 loop-holds : tie.Need-loop-holds Inv-loop μ-loop
 loop-holds c = (search walked-none, search at-first)
-
-read-requires : tie.Need-read-requires Inv-loop μ-loop
-read-requires c κs = search needs
-
-fields-hold-requires : tie.Need-fields-hold-requires Inv-loop μ-loop
-fields-hold-requires c κs = search needs
 
 same-length : tie.Need-same-length Inv-loop μ-loop
 same-length c = omega (arith, c .before .before .before .before .loop .inv .1 .names-long, c .before .before .before .before .before .before .before .before .before .before .before .before .before .before .pre .1 .0)
@@ -42,19 +27,10 @@ same-length-2 c = omega (arith, c .before .before .before .before .loop .inv .1 
 returns : tie.Need-returns Inv-loop μ-loop
 returns c = search walked-field
 
-is-enter-requires : tie.Need-is-enter-requires Inv-loop μ-loop
-is-enter-requires c κs = search needs
-
 advance-requires : tie.Need-advance-requires Inv-loop μ-loop
 advance-requires c κs =
     let v = c .before .before .before .before .before .before .before .loop .inv .1 in
     (c .before .before .before .before .before .before .before .before .before .before .before .before .before .before .before .before .before .pre .0, (v .in-states, v .deep, v .names-long, v .behind-long, λ h. v .all-states _ (omega arith)))
-
-enum-known-moved : tie.Need-enum-known-moved Inv-loop μ-loop
-enum-known-moved c = search needs
-
-enum-told : tie.Need-enum-told Inv-loop μ-loop
-enum-told c = search needs
 
 unnested-requires : tie.Need-unnested-requires Inv-loop μ-loop
 unnested-requires c κs =
@@ -72,29 +48,11 @@ same-length-3 c = omega (arith, c .before .before .before .before .before .befor
 same-length-4 : tie.Need-same-length-4 Inv-loop μ-loop
 same-length-4 c = omega (arith, c .before .before .before .before .before .before .before .before .before .before .before .before .before .before .before .loop .inv .1 .behind-long, c .before .before .before .before .before .before .before .before .before .before .before .before .before .before .before .before .before .before .before .before .before .before .before .before .before .pre .1 .1)
 
-returns-2 : tie.Need-returns-2 Inv-loop μ-loop
-returns-2 c = search needs
-
-is-idle-enter-requires : tie.Need-is-idle-enter-requires Inv-loop μ-loop
-is-idle-enter-requires c κs = search needs
-
-add-i : tie.Need-add-i Inv-loop μ-loop
-add-i c = search needs
-
-loop-less : tie.Need-loop-less Inv-loop μ-loop
-loop-less c = search needs
-
 loop-again : tie.Need-loop-again Inv-loop μ-loop
 loop-again c = (search walked-enter, search nest-goes)
 
-heading-behind-requires : tie.Need-heading-behind-requires Inv-loop μ-loop
-heading-behind-requires c κs = search needs
-
 add-i-2 : tie.Need-add-i-2 Inv-loop μ-loop
 add-i-2 c = omega (arith, c .before .before .before .before .before .before .before .before .before .before .before .before .before .before .before .before .before .before .before .before .loop-test, c .before .before .before .before .before .before .before .before .before .before .before .before .before .before .before .before .before .before .before .before .before .before .before .before .count)
-
-loop-less-2 : tie.Need-loop-less-2 Inv-loop μ-loop
-loop-less-2 c = search needs
 
 loop-again-2 : tie.Need-loop-again-2 Inv-loop μ-loop
 loop-again-2 c =
@@ -106,14 +64,8 @@ loop-again-2 c =
     let k = o .before .before .before .is-enter .ensures in
     (walked-heading _ _ _ (w .0) l (t .loop-test .taken) p (o .before .before .before .before .before .fields-hold .ensures) (o .before .before .before .before .if1 .left) k (c .before .before .before .before .before .if2 .taken) (c .before .if4 .taken) (c .heading-behind .ensures .0) (c .heading-behind .ensures .1), nest-goes (w .1) l (t .loop-test .taken) p k _ _ _ (o .advance .ensures) (c .before .before .before .before .before .before .before .moved .given .1))
 
-count-behind-requires : tie.Need-count-behind-requires Inv-loop μ-loop
-count-behind-requires c κs = search needs
-
 add-i-3 : tie.Need-add-i-3 Inv-loop μ-loop
 add-i-3 c = omega (arith, c .before .before .before .before .before .before .before .before .before .before .before .before .before .before .before .before .before .before .before .before .loop-test, c .before .before .before .before .before .before .before .before .before .before .before .before .before .before .before .before .before .before .before .before .before .before .before .before .count)
-
-loop-less-3 : tie.Need-loop-less-3 Inv-loop μ-loop
-loop-less-3 c = search needs
 
 loop-again-3 : tie.Need-loop-again-3 Inv-loop μ-loop
 loop-again-3 c =
@@ -125,26 +77,11 @@ loop-again-3 c =
     let k = o .before .before .before .is-enter .ensures in
     (walked-mark _ _ _ (w .0) l (t .loop-test .taken) p (o .before .before .before .before .before .fields-hold .ensures) (o .before .before .before .before .if1 .left) k (c .before .before .before .before .before .if2 .taken) (c .before .if4 .left) (c .count-behind .ensures .0) (c .count-behind .ensures .1) (c .count-behind .ensures .2), nest-goes (w .1) l (t .loop-test .taken) p k _ _ _ (o .advance .ensures) (c .before .before .before .before .before .before .before .moved .given .1))
 
-is-idle-exit-requires : tie.Need-is-idle-exit-requires Inv-loop μ-loop
-is-idle-exit-requires c κs = search needs
-
-add-i-4 : tie.Need-add-i-4 Inv-loop μ-loop
-add-i-4 c = search needs
-
-loop-less-4 : tie.Need-loop-less-4 Inv-loop μ-loop
-loop-less-4 c = search needs
-
 loop-again-4 : tie.Need-loop-again-4 Inv-loop μ-loop
 loop-again-4 c = (search walked-exit, search nest-goes)
 
-slice-behind-requires : tie.Need-slice-behind-requires Inv-loop μ-loop
-slice-behind-requires c κs = search needs
-
 add-i-5 : tie.Need-add-i-5 Inv-loop μ-loop
 add-i-5 c = omega (arith, c .before .before .before .before .before .before .before .before .before .before .before .before .before .before .before .before .before .before .loop-test, c .before .before .before .before .before .before .before .before .before .before .before .before .before .before .before .before .before .before .before .before .before .before .count)
-
-loop-less-5 : tie.Need-loop-less-5 Inv-loop μ-loop
-loop-less-5 c = search needs
 
 loop-again-5 : tie.Need-loop-again-5 Inv-loop μ-loop
 loop-again-5 c =
@@ -155,9 +92,6 @@ loop-again-5 c =
     let p = o .before .before .before .before .before .before .read .ensures in
     let k = o .before .before .before .is-enter .ensures in
     (walked-slice _ _ _ (w .0) l (t .loop-test .taken) p (o .before .before .before .before .before .fields-hold .ensures) (o .before .before .before .before .if1 .left) k (c .before .before .before .if2 .left) (c .slice-behind .ensures), nest-goes (w .1) l (t .loop-test .taken) p k _ _ _ (o .advance .ensures) (c .before .before .before .before .before .moved .given .1))
-
-ended-requires : tie.Need-ended-requires Inv-loop μ-loop
-ended-requires c κs = search needs
 
 same-length-5 : tie.Need-same-length-5 Inv-loop μ-loop
 same-length-5 c = omega (arith, c .before .before .loop .inv .1 .names-long, c .before .before .before .before .before .before .before .before .before .before .before .before .pre .1 .0)
@@ -174,44 +108,44 @@ walk-spec =
     (tie.spec
     Inv-loop
     μ-loop
-    count-requires
-    no-slices-requires
-    no-counts-requires
+    (λ c κs. search needs)
+    (λ c κs. search needs)
+    (λ c κs. search needs)
     loop-holds
-    read-requires
-    fields-hold-requires
+    (λ c κs. search needs)
+    (λ c κs. search needs)
     same-length
     same-length-2
     returns
-    is-enter-requires
+    (λ c κs. search needs)
     advance-requires
-    enum-known-moved
-    enum-told
+    (λ c. search needs)
+    (λ c. search needs)
     unnested-requires
     same-length-3
     same-length-4
-    returns-2
-    is-idle-enter-requires
-    add-i
-    loop-less
+    (λ c. search needs)
+    (λ c κs. search needs)
+    (λ c. search needs)
+    (λ c. search needs)
     loop-again
-    heading-behind-requires
+    (λ c κs. search needs)
     add-i-2
-    loop-less-2
+    (λ c. search needs)
     loop-again-2
-    count-behind-requires
+    (λ c κs. search needs)
     add-i-3
-    loop-less-3
+    (λ c. search needs)
     loop-again-3
-    is-idle-exit-requires
-    add-i-4
-    loop-less-4
+    (λ c κs. search needs)
+    (λ c. search needs)
+    (λ c. search needs)
     loop-again-4
-    slice-behind-requires
+    (λ c κs. search needs)
     add-i-5
-    loop-less-5
+    (λ c. search needs)
     loop-again-5
-    ended-requires
+    (λ c κs. search needs)
     same-length-5
     same-length-6
     returns-3)

@@ -7,11 +7,8 @@ use Rattle.check_fields.proofs.end_holds.Tie as tie
 returns : tie.Need-returns
 returns c = search past-text
 
-is-inside-requires : tie.Need-is-inside-requires
-is-inside-requires c κs = search needs
-
 returns-2 : tie.Need-returns-2
 returns-2 c = search at-end
 
 pub end-holds-spec : {M : Type 1} → statement M
-end-holds-spec = tie.close (tie.spec returns is-inside-requires returns-2)
+end-holds-spec = tie.close (tie.spec returns (λ c κs. search needs) returns-2)

@@ -4,9 +4,6 @@ use borrow.Author.Needs.{needs}
 use Rattle.check_fields.proofs.enter_holds.Statement.{statement}
 use Rattle.check_fields.proofs.enter_holds.Tie as tie
 
-extra-holds-requires : tie.Need-extra-holds-requires
-extra-holds-requires c κs = search needs
-
 returns : tie.Need-returns
 returns c = search with-zeros
 
@@ -14,4 +11,4 @@ returns-2 : tie.Need-returns-2
 returns-2 c = search without-zeros
 
 pub enter-holds-spec : {M : Type 1} → statement M
-enter-holds-spec = tie.close (tie.spec extra-holds-requires returns returns-2)
+enter-holds-spec = tie.close (tie.spec (λ c κs. search needs) returns returns-2)

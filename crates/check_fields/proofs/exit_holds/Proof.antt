@@ -7,12 +7,6 @@ use Rattle.check_fields.proofs.exit_holds.Tie as tie
 returns : tie.Need-returns
 returns c = search with-extra
 
-spaces-hold-requires : tie.Need-spaces-hold-requires
-spaces-hold-requires c κs = search needs
-
-slice-holds-requires : tie.Need-slice-holds-requires
-slice-holds-requires c κs = search needs
-
 returns-2 : tie.Need-returns-2
 returns-2 c = search spaced
 
@@ -20,4 +14,4 @@ returns-3 : tie.Need-returns-3
 returns-3 c = search unspaced
 
 pub exit-holds-spec : {M : Type 1} → statement M
-exit-holds-spec = tie.close (tie.spec returns spaces-hold-requires slice-holds-requires returns-2 returns-3)
+exit-holds-spec = tie.close (tie.spec returns (λ c κs. search needs) (λ c κs. search needs) returns-2 returns-3)

@@ -10,9 +10,6 @@ returns c = search of-none
 returns-2 : tie.Need-returns-2
 returns-2 c = search of-list
 
-table-extra-requires : tie.Need-table-extra-requires
-table-extra-requires c κs = search needs
-
 returns-3 : tie.Need-returns-3
 returns-3 c = search of-table
 
@@ -20,4 +17,4 @@ returns-4 : tie.Need-returns-4
 returns-4 c = search of-other
 
 pub extra-holds-spec : {M : Type 1} → statement M
-extra-holds-spec = tie.close (tie.spec returns returns-2 table-extra-requires returns-3 returns-4)
+extra-holds-spec = tie.close (tie.spec returns returns-2 (λ c κs. search needs) returns-3 returns-4)

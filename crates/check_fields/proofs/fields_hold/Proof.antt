@@ -7,23 +7,14 @@ use Rattle.check_fields.proofs.fields_hold.Tie as tie
 returns : tie.Need-returns
 returns c = search unknown-name
 
-is-enter-requires : tie.Need-is-enter-requires
-is-enter-requires c κs = search needs
-
-enter-holds-requires : tie.Need-enter-holds-requires
-enter-holds-requires c κs = search needs
-
 returns-2 : tie.Need-returns-2
 returns-2 c = search known-enter
 
 returns-3 : tie.Need-returns-3
 returns-3 c = search unknown-kind
 
-exit-holds-requires : tie.Need-exit-holds-requires
-exit-holds-requires c κs = search needs
-
 returns-4 : tie.Need-returns-4
 returns-4 c = search known-exit
 
 pub fields-hold-spec : {M : Type 1} → statement M
-fields-hold-spec = tie.close (tie.spec returns is-enter-requires enter-holds-requires returns-2 returns-3 exit-holds-requires returns-4)
+fields-hold-spec = tie.close (tie.spec returns (λ c κs. search needs) (λ c κs. search needs) returns-2 returns-3 (λ c κs. search needs) returns-4)

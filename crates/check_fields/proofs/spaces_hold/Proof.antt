@@ -7,11 +7,8 @@ use Rattle.check_fields.proofs.spaces_hold.Tie as tie
 returns : tie.Need-returns
 returns c = search no-spaces
 
-most-spaces-requires : tie.Need-most-spaces-requires
-most-spaces-requires c κs = search needs
-
 returns-2 : tie.Need-returns-2
 returns-2 c = search of-spaces
 
 pub spaces-hold-spec : {M : Type 1} → statement M
-spaces-hold-spec = tie.close (tie.spec returns most-spaces-requires returns-2)
+spaces-hold-spec = tie.close (tie.spec returns (λ c κs. search needs) returns-2)

@@ -4,23 +4,11 @@ use borrow.Author.Needs.{needs}
 use Rattle.check_fields.proofs.table_extra.Statement.{statement}
 use Rattle.check_fields.proofs.table_extra.Tie as tie
 
-columns-requires : tie.Need-columns-requires
-columns-requires c κs = search needs
-
 returns : tie.Need-returns
 returns c = search no-columns
 
 returns-2 : tie.Need-returns-2
 returns-2 c = search many-columns
-
-mul-result : tie.Need-mul-result
-mul-result c = search needs
-
-add-result : tie.Need-add-result
-add-result c = search needs
-
-shr-result : tie.Need-shr-result
-shr-result c = search needs
 
 returns-3 : tie.Need-returns-3
 returns-3 c = search past-columns
@@ -28,4 +16,4 @@ returns-3 c = search past-columns
 pub table-extra-spec : {M : Type 1} → statement M
 table-extra-spec =
     tie.close
-    (tie.spec columns-requires returns returns-2 mul-result add-result shr-result returns-3)
+    (tie.spec (λ c κs. search needs) returns returns-2 (λ c. search needs) (λ c. search needs) (λ c. search needs) returns-3)

@@ -16,23 +16,8 @@ Inv-loop text events definitions footnotes from count i₀ i = undefinedFrom tex
 abbrev μ-loop : tie.MeasureT-loop
 μ-loop text events definitions footnotes from count i₀ i = count - i
 
-count-requires : tie.Need-count-requires Inv-loop μ-loop
-count-requires c κs = search needs
-
 loop-holds : tie.Need-loop-holds Inv-loop μ-loop
 loop-holds c = search use-first
-
-holds-requires : tie.Need-holds-requires Inv-loop μ-loop
-holds-requires c κs = search needs
-
-add-next-use : tie.Need-add-next-use Inv-loop μ-loop
-add-next-use c = search needs
-
-next-use-requires : tie.Need-next-use-requires Inv-loop μ-loop
-next-use-requires c κs = search needs
-
-loop-less : tie.Need-loop-less Inv-loop μ-loop
-loop-less c = search needs
 
 loop-again : tie.Need-loop-again Inv-loop μ-loop
 loop-again c = search use-next
@@ -49,12 +34,12 @@ first-spec =
     (tie.spec
     Inv-loop
     μ-loop
-    count-requires
+    (λ c κs. search needs)
     loop-holds
-    holds-requires
-    add-next-use
-    next-use-requires
-    loop-less
+    (λ c κs. search needs)
+    (λ c. search needs)
+    (λ c κs. search needs)
+    (λ c. search needs)
     loop-again
     returns
     returns-2)

@@ -4,38 +4,11 @@ use borrow.Author.Needs.{needs}
 use Rattle.check_labels.proofs.holds.Statement.{statement}
 use Rattle.check_labels.proofs.holds.Tie as tie
 
-kind-at-requires : tie.Need-kind-at-requires
-kind-at-requires c κs = search needs
-
 returns : tie.Need-returns
 returns c = search holds-exit
 
-name-at-requires : tie.Need-name-at-requires
-name-at-requires c κs = search needs
-
-is-medium-requires : tie.Need-is-medium-requires
-is-medium-requires c κs = search needs
-
-add-sought : tie.Need-add-sought
-add-sought c = search needs
-
-sought-requires : tie.Need-sought-requires
-sought-requires c κs = search needs
-
-is-defined-requires : tie.Need-is-defined-requires
-is-defined-requires c κs = search needs
-
 returns-2 : tie.Need-returns-2
 returns-2 c = search holds-medium
-
-add-sought-2 : tie.Need-add-sought-2
-add-sought-2 c = search needs
-
-sought-requires-2 : tie.Need-sought-requires-2
-sought-requires-2 c κs = search needs
-
-is-defined-requires-2 : tie.Need-is-defined-requires-2
-is-defined-requires-2 c κs = search needs
 
 returns-3 : tie.Need-returns-3
 returns-3 c = search holds-call
@@ -47,16 +20,16 @@ pub holds-spec : {M : Type 1} → statement M
 holds-spec =
     tie.close
     (tie.spec
-    kind-at-requires
+    (λ c κs. search needs)
     returns
-    name-at-requires
-    is-medium-requires
-    add-sought
-    sought-requires
-    is-defined-requires
+    (λ c κs. search needs)
+    (λ c κs. search needs)
+    (λ c. search needs)
+    (λ c κs. search needs)
+    (λ c κs. search needs)
     returns-2
-    add-sought-2
-    sought-requires-2
-    is-defined-requires-2
+    (λ c. search needs)
+    (λ c κs. search needs)
+    (λ c κs. search needs)
     returns-3
     returns-4)

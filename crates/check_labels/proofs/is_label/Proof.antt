@@ -4,17 +4,11 @@ use borrow.Author.Needs.{needs}
 use Rattle.check_labels.proofs.is_label.Statement.{statement}
 use Rattle.check_labels.proofs.is_label.Tie as tie
 
-name-at-requires : tie.Need-name-at-requires
-name-at-requires c κs = search needs
-
 returns : tie.Need-returns
 returns c = search no-label
-
-kind-at-requires : tie.Need-kind-at-requires
-kind-at-requires c κs = search needs
 
 returns-2 : tie.Need-returns-2
 returns-2 c = search by-kind
 
 pub is-label-spec : {M : Type 1} → statement M
-is-label-spec = tie.close (tie.spec name-at-requires returns kind-at-requires returns-2)
+is-label-spec = tie.close (tie.spec (λ c κs. search needs) returns (λ c κs. search needs) returns-2)

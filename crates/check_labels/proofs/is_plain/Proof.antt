@@ -4,9 +4,6 @@ use borrow.Author.Needs.{needs}
 use Rattle.check_labels.proofs.is_plain.Statement.{statement}
 use Rattle.check_labels.proofs.is_plain.Tie as tie
 
-name-at-requires : tie.Need-name-at-requires
-name-at-requires c κs = search needs
-
 returns : tie.Need-returns
 returns c = search before-labels
 
@@ -17,4 +14,4 @@ returns-3 : tie.Need-returns-3
 returns-3 c = search by-name
 
 pub is-plain-spec : {M : Type 1} → statement M
-is-plain-spec = tie.close (tie.spec name-at-requires returns returns-2 returns-3)
+is-plain-spec = tie.close (tie.spec (λ c κs. search needs) returns returns-2 returns-3)

@@ -4,29 +4,11 @@ use borrow.Author.Needs.{needs}
 use Rattle.check_labels.proofs.is_use.Statement.{statement}
 use Rattle.check_labels.proofs.is_use.Tie as tie
 
-name-at-requires : tie.Need-name-at-requires
-name-at-requires c κs = search needs
-
-is-other-requires : tie.Need-is-other-requires
-is-other-requires c κs = search needs
-
 returns : tie.Need-returns
 returns c = search use-other
 
-kind-at-requires : tie.Need-kind-at-requires
-kind-at-requires c κs = search needs
-
 returns-2 : tie.Need-returns-2
 returns-2 c = search use-exit
-
-is-medium-requires : tie.Need-is-medium-requires
-is-medium-requires c κs = search needs
-
-add-seeks : tie.Need-add-seeks
-add-seeks c = search needs
-
-seeks-requires : tie.Need-seeks-requires
-seeks-requires c κs = search needs
 
 returns-3 : tie.Need-returns-3
 returns-3 c = search use-medium
@@ -38,13 +20,13 @@ pub is-use-spec : {M : Type 1} → statement M
 is-use-spec =
     tie.close
     (tie.spec
-    name-at-requires
-    is-other-requires
+    (λ c κs. search needs)
+    (λ c κs. search needs)
     returns
-    kind-at-requires
+    (λ c κs. search needs)
     returns-2
-    is-medium-requires
-    add-seeks
-    seeks-requires
+    (λ c κs. search needs)
+    (λ c. search needs)
+    (λ c κs. search needs)
     returns-3
     returns-4)

@@ -12,23 +12,11 @@ Inv-loop events n from count i₀ i = Passed events n from i
 abbrev μ-loop : tie.MeasureT-loop
 μ-loop events n from count i₀ i = count - i
 
-count-requires : tie.Need-count-requires Inv-loop μ-loop
-count-requires c κs = search needs
-
 loop-holds : tie.Need-loop-holds Inv-loop μ-loop
 loop-holds c = search label-start
 
-is-label-requires : tie.Need-is-label-requires Inv-loop μ-loop
-is-label-requires c κs = search needs
-
 returns : tie.Need-returns Inv-loop μ-loop
 returns c = search label-next
-
-add-i : tie.Need-add-i Inv-loop μ-loop
-add-i c = search needs
-
-loop-less : tie.Need-loop-less Inv-loop μ-loop
-loop-less c = search needs
 
 loop-again : tie.Need-loop-again Inv-loop μ-loop
 loop-again c = search label-more
@@ -42,11 +30,11 @@ next-label-spec =
     (tie.spec
     Inv-loop
     μ-loop
-    count-requires
+    (λ c κs. search needs)
     loop-holds
-    is-label-requires
+    (λ c κs. search needs)
     returns
-    add-i
-    loop-less
+    (λ c. search needs)
+    (λ c. search needs)
     loop-again
     returns-2)

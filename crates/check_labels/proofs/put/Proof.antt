@@ -9,33 +9,6 @@ use Rattle.check_labels.proofs.put.Tie as tie
 returns : tie.Need-returns
 returns c = search puts-none
 
-read-requires : tie.Need-read-requires
-read-requires c κs = search needs
-
-part-requires : tie.Need-part-requires
-part-requires c κs = search needs
-
-sign-requires : tie.Need-sign-requires
-sign-requires c κs = search needs
-
-mul-signatures : tie.Need-mul-signatures
-mul-signatures c = search needs
-
-mul-signatures-2 : tie.Need-mul-signatures-2
-mul-signatures-2 c = search needs
-
-slice-write-signatures : tie.Need-slice-write-signatures
-slice-write-signatures c = search needs
-
-mul-signatures-3 : tie.Need-mul-signatures-3
-mul-signatures-3 c = search needs
-
-add-signatures : tie.Need-add-signatures
-add-signatures c = search needs
-
-mul-signatures-4 : tie.Need-mul-signatures-4
-mul-signatures-4 c = search needs
-
 slice-write-signatures-2 : tie.Need-slice-write-signatures-2
 slice-write-signatures-2 c = simp length-set (omega arith)
 
@@ -50,15 +23,15 @@ put-spec =
     tie.close
     (tie.spec
     returns
-    read-requires
-    part-requires
-    sign-requires
-    mul-signatures
-    mul-signatures-2
-    slice-write-signatures
-    mul-signatures-3
-    add-signatures
-    mul-signatures-4
+    (λ c κs. search needs)
+    (λ c κs. search needs)
+    (λ c κs. search needs)
+    (λ c. search needs)
+    (λ c. search needs)
+    (λ c. search needs)
+    (λ c. search needs)
+    (λ c. search needs)
+    (λ c. search needs)
     slice-write-signatures-2
     same-length
     returns-2)

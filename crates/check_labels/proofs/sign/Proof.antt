@@ -15,46 +15,16 @@ Inv-loop text events definitions₀ footnotes₀ count k₀ l₀ i₀ definition
 abbrev μ-loop : tie.MeasureT-loop
 μ-loop text events definitions₀ footnotes₀ count k₀ l₀ i₀ definitions footnotes k l i = count - i
 
-count-requires : tie.Need-count-requires Inv-loop μ-loop
-count-requires c κs = search needs
-
 loop-holds : tie.Need-loop-holds Inv-loop μ-loop
 loop-holds c = search (signing-none, needs)
 
-is-plain-requires : tie.Need-is-plain-requires Inv-loop μ-loop
-is-plain-requires c κs = search needs
-
-add-i : tie.Need-add-i Inv-loop μ-loop
-add-i c = search needs
-
-loop-less : tie.Need-loop-less Inv-loop μ-loop
-loop-less c = search needs
-
 loop-again : tie.Need-loop-again Inv-loop μ-loop
 loop-again c = search (plain-definition, plain-footnote, needs)
-
-sign-at-requires : tie.Need-sign-at-requires Inv-loop μ-loop
-sign-at-requires c κs = search needs
-
-sign-at-requires-2 : tie.Need-sign-at-requires-2 Inv-loop μ-loop
-sign-at-requires-2 c κs = search needs
-
-add-i-2 : tie.Need-add-i-2 Inv-loop μ-loop
-add-i-2 c = search needs
-
-loop-less-2 : tie.Need-loop-less-2 Inv-loop μ-loop
-loop-less-2 c = search needs
 
 loop-again-2 : tie.Need-loop-again-2 Inv-loop μ-loop
 loop-again-2 c =
     let inv = c .before .before .before .before .before .before .before .before .before .before .before .loop .inv in
     (signed-by (c .before .before .before .before .before .before .sign-at .ensures) (inv .0), signed-by (c .before .before .sign-at2 .ensures) (inv .1), search needs, search needs)
-
-same-length : tie.Need-same-length Inv-loop μ-loop
-same-length c = search needs
-
-same-length-2 : tie.Need-same-length-2 Inv-loop μ-loop
-same-length-2 c = search needs
 
 returns : tie.Need-returns Inv-loop μ-loop
 returns c = search (signing-end, needs)
@@ -65,17 +35,17 @@ sign-spec =
     (tie.spec
     Inv-loop
     μ-loop
-    count-requires
+    (λ c κs. search needs)
     loop-holds
-    is-plain-requires
-    add-i
-    loop-less
+    (λ c κs. search needs)
+    (λ c. search needs)
+    (λ c. search needs)
     loop-again
-    sign-at-requires
-    sign-at-requires-2
-    add-i-2
-    loop-less-2
+    (λ c κs. search needs)
+    (λ c κs. search needs)
+    (λ c. search needs)
+    (λ c. search needs)
     loop-again-2
-    same-length
-    same-length-2
+    (λ c. search needs)
+    (λ c. search needs)
     returns)

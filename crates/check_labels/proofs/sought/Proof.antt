@@ -4,29 +4,8 @@ use borrow.Author.Needs.{needs}
 use Rattle.check_labels.proofs.sought.Statement.{statement}
 use Rattle.check_labels.proofs.sought.Tie as tie
 
-own-part-requires : tie.Need-own-part-requires
-own-part-requires c κs = search needs
-
-enum-told : tie.Need-enum-told
-enum-told c = search needs
-
 returns : tie.Need-returns
 returns c = search sought-none
-
-enum-told-2 : tie.Need-enum-told-2
-enum-told-2 c = search needs
-
-own-part-requires-2 : tie.Need-own-part-requires-2
-own-part-requires-2 c κs = search needs
-
-enum-known-a : tie.Need-enum-known-a
-enum-known-a c = search needs
-
-enum-told-3 : tie.Need-enum-told-3
-enum-told-3 c = search needs
-
-own-part-requires-3 : tie.Need-own-part-requires-3
-own-part-requires-3 c κs = search needs
 
 returns-2 : tie.Need-returns-2
 returns-2 c = search sought-label
@@ -38,13 +17,13 @@ pub sought-spec : {M : Type 1} → statement M
 sought-spec =
     tie.close
     (tie.spec
-    own-part-requires
-    enum-told
+    (λ c κs. search needs)
+    (λ c. search needs)
     returns
-    enum-told-2
-    own-part-requires-2
-    enum-known-a
-    enum-told-3
-    own-part-requires-3
+    (λ c. search needs)
+    (λ c κs. search needs)
+    (λ c. search needs)
+    (λ c. search needs)
+    (λ c κs. search needs)
     returns-2
     returns-3)

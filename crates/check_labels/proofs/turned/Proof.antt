@@ -7,23 +7,14 @@ use Rattle.check_labels.proofs.turned.Tie as tie
 returns : tie.Need-returns
 returns c = search turn-passed
 
-add-t6 : tie.Need-add-t6
-add-t6 c = search needs
-
 returns-2 : tie.Need-returns-2
 returns-2 c = search turn-enter
 
 returns-3 : tie.Need-returns-3
 returns-3 c = search turn-out
 
-both-requires : tie.Need-both-requires
-both-requires c κs = search needs
-
 returns-4 : tie.Need-returns-4
 returns-4 c = search turn-own
-
-sub-t9 : tie.Need-sub-t9
-sub-t9 c = search needs
 
 returns-5 : tie.Need-returns-5
 returns-5 c =
@@ -33,4 +24,4 @@ returns-5 c =
 pub turned-spec : {M : Type 1} → statement M
 turned-spec =
     tie.close
-    (tie.spec returns add-t6 returns-2 returns-3 both-requires returns-4 sub-t9 returns-5)
+    (tie.spec returns (λ c. search needs) returns-2 returns-3 (λ c κs. search needs) returns-4 (λ c. search needs) returns-5)

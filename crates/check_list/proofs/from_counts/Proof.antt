@@ -4,15 +4,6 @@ use Rattle.check_list.proofs.from_counts.Statement.{statement}
 use Rattle.check_list.proofs.from_counts.Tie as tie
 use Rattle.check_list.proofs.Order.{counts-pass, counts-fail}
 
-enum-told : tie.Need-enum-told
-enum-told c = search needs
-
-from-labels-requires : tie.Need-from-labels-requires
-from-labels-requires c κs = search needs
-
-enum-known-counts : tie.Need-enum-known-counts
-enum-known-counts c = search needs
-
 returns : tie.Need-returns
 returns c = search counts-pass
 
@@ -21,4 +12,4 @@ returns-2 c = search counts-fail
 
 pub from-counts-spec : {M : Type 1} → statement M
 from-counts-spec =
-    tie.close (tie.spec enum-told from-labels-requires enum-known-counts returns returns-2)
+    tie.close (tie.spec (λ c. search needs) (λ c κs. search needs) (λ c. search needs) returns returns-2)

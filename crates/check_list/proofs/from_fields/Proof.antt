@@ -4,18 +4,6 @@ use Rattle.check_list.proofs.from_fields.Statement.{statement}
 use Rattle.check_list.proofs.from_fields.Tie as tie
 use Rattle.check_list.proofs.Order.{looked-field, looked-nested, looked-passes, looked-through}
 
-look-requires : tie.Need-look-requires
-look-requires c κs = search needs
-
-enum-known-i : tie.Need-enum-known-i
-enum-known-i c = search needs
-
-enum-known-i-2 : tie.Need-enum-known-i-2
-enum-known-i-2 c = search needs
-
-enum-known-p : tie.Need-enum-known-p
-enum-known-p c = search needs
-
 from-slices-requires : tie.Need-from-slices-requires
 from-slices-requires c κs = search looked-passes
 
@@ -31,4 +19,4 @@ returns-3 c = search looked-through
 pub from-fields-spec : {M : Type 1} → statement M
 from-fields-spec =
     tie.close
-    (tie.spec look-requires enum-known-i enum-known-i-2 enum-known-p from-slices-requires returns returns-2 returns-3)
+    (tie.spec (λ c κs. search needs) (λ c. search needs) (λ c. search needs) (λ c. search needs) from-slices-requires returns returns-2 returns-3)

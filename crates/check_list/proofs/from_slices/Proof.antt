@@ -4,15 +4,6 @@ use Rattle.check_list.proofs.from_slices.Statement.{statement}
 use Rattle.check_list.proofs.from_slices.Tie as tie
 use Rattle.check_list.proofs.Order.{slices-pass, slices-fail}
 
-enum-told : tie.Need-enum-told
-enum-told c = search needs
-
-from-counts-requires : tie.Need-from-counts-requires
-from-counts-requires c κs = search needs
-
-enum-known-slices : tie.Need-enum-known-slices
-enum-known-slices c = search needs
-
 returns : tie.Need-returns
 returns c = search slices-pass
 
@@ -21,4 +12,4 @@ returns-2 c = search slices-fail
 
 pub from-slices-spec : {M : Type 1} → statement M
 from-slices-spec =
-    tie.close (tie.spec enum-told from-counts-requires enum-known-slices returns returns-2)
+    tie.close (tie.spec (λ c. search needs) (λ c κs. search needs) (λ c. search needs) returns returns-2)

@@ -7,23 +7,8 @@ use Rattle.check_nesting.proofs.close.Tie as tie
 returns : tie.Need-returns
 returns c = search none-to-close
 
-sub-at : tie.Need-sub-at
-sub-at c = search needs
-
-shared-slice-read-leave : tie.Need-shared-slice-read-leave
-shared-slice-read-leave c = search needs
-
-shared-slice-read-leave-2 : tie.Need-shared-slice-read-leave-2
-shared-slice-read-leave-2 c = search needs
-
 leave-requires : tie.Need-leave-requires
 leave-requires c κs = search (newest-state, needs)
-
-enum-known-exit : tie.Need-enum-known-exit
-enum-known-exit c = search needs
-
-enum-told : tie.Need-enum-told
-enum-told c = search needs
 
 returns-2 : tie.Need-returns-2
 returns-2 c = search not-closed
@@ -36,11 +21,11 @@ close-spec =
     tie.close
     (tie.spec
     returns
-    sub-at
-    shared-slice-read-leave
-    shared-slice-read-leave-2
+    (λ c. search needs)
+    (λ c. search needs)
+    (λ c. search needs)
     leave-requires
-    enum-known-exit
-    enum-told
+    (λ c. search needs)
+    (λ c. search needs)
     returns-2
     returns-3)

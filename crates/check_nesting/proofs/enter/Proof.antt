@@ -16,26 +16,8 @@ returns-3 c = search of-empty
 returns-4 : tie.Need-returns-4
 returns-4 c = search of-none
 
-entry-place-requires : tie.Need-entry-place-requires
-entry-place-requires c κs = search needs
-
-shared-slice-read-if5 : tie.Need-shared-slice-read-if5
-shared-slice-read-if5 c = search needs
-
 returns-5 : tie.Need-returns-5
 returns-5 c = search of-other
-
-add-t10 : tie.Need-add-t10
-add-t10 c = search needs
-
-shared-slice-read-t9 : tie.Need-shared-slice-read-t9
-shared-slice-read-t9 c = search needs
-
-add-t12 : tie.Need-add-t12
-add-t12 c = search needs
-
-shared-slice-read-t14 : tie.Need-shared-slice-read-t14
-shared-slice-read-t14 c = search needs
 
 returns-6 : tie.Need-returns-6
 returns-6 c = search of-entry
@@ -48,11 +30,11 @@ enter-spec =
     returns-2
     returns-3
     returns-4
-    entry-place-requires
-    shared-slice-read-if5
+    (λ c κs. search needs)
+    (λ c. search needs)
     returns-5
-    add-t10
-    shared-slice-read-t9
-    add-t12
-    shared-slice-read-t14
+    (λ c. search needs)
+    (λ c. search needs)
+    (λ c. search needs)
+    (λ c. search needs)
     returns-6)

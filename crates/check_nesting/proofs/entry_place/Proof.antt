@@ -5,12 +5,6 @@ use borrow.Author.Needs.{needs}
 use Rattle.check_nesting.proofs.entry_place.Statement.{statement}
 use Rattle.check_nesting.proofs.entry_place.Tie as tie
 
-mul-row : tie.Need-mul-row
-mul-row c = search needs
-
-shared-slice-read-row : tie.Need-shared-slice-read-row
-shared-slice-read-row c = search needs
-
 cast-result : tie.Need-cast-result
 cast-result c = omega (arith, c .before .pre .0 .places (c .before .args .here) (search needs))
 
@@ -25,4 +19,4 @@ returns c = (refl, omega (arith, c .before .pre .0 .places (c .before .args .her
 
 pub entry-place-spec : {M : Type 1} → statement M
 entry-place-spec =
-    tie.close (tie.spec mul-row shared-slice-read-row cast-result add-result mul-result returns)
+    tie.close (tie.spec (λ c. search needs) (λ c. search needs) cast-result add-result mul-result returns)

@@ -10,15 +10,6 @@ returns c = search of-older
 returns-2 : tie.Need-returns-2
 returns-2 c = search goes-through
 
-mul-if3 : tie.Need-mul-if3
-mul-if3 c = search needs
-
-add-if3 : tie.Need-add-if3
-add-if3 c = search needs
-
-shared-slice-read-if3 : tie.Need-shared-slice-read-if3
-shared-slice-read-if3 c = search needs
-
 returns-3 : tie.Need-returns-3
 returns-3 c = search unfinished
 
@@ -28,4 +19,4 @@ returns-4 c = search finished
 pub leave-spec : {M : Type 1} → statement M
 leave-spec =
     tie.close
-    (tie.spec returns returns-2 mul-if3 add-if3 shared-slice-read-if3 returns-3 returns-4)
+    (tie.spec returns returns-2 (λ c. search needs) (λ c. search needs) (λ c. search needs) returns-3 returns-4)

@@ -7,32 +7,8 @@ use Rattle.check_nesting.proofs.open.Tie as tie
 returns : tie.Need-returns
 returns c = search all-open
 
-enter-requires : tie.Need-enter-requires
-enter-requires c κs = search needs
-
-enum-known-entry : tie.Need-enum-known-entry
-enum-known-entry c = search needs
-
-enum-told : tie.Need-enum-told
-enum-told c = search needs
-
 returns-2 : tie.Need-returns-2
 returns-2 c = search not-opened
-
-slice-write-names : tie.Need-slice-write-names
-slice-write-names c = search needs
-
-slice-write-behind : tie.Need-slice-write-behind
-slice-write-behind c = search needs
-
-add-t14 : tie.Need-add-t14
-add-t14 c = search needs
-
-same-length : tie.Need-same-length
-same-length c = search needs
-
-same-length-2 : tie.Need-same-length-2
-same-length-2 c = search needs
 
 returns-3 : tie.Need-returns-3
 returns-3 c = search is-opened
@@ -42,13 +18,13 @@ open-spec =
     tie.close
     (tie.spec
     returns
-    enter-requires
-    enum-known-entry
-    enum-told
+    (λ c κs. search needs)
+    (λ c. search needs)
+    (λ c. search needs)
     returns-2
-    slice-write-names
-    slice-write-behind
-    add-t14
-    same-length
-    same-length-2
+    (λ c. search needs)
+    (λ c. search needs)
+    (λ c. search needs)
+    (λ c. search needs)
+    (λ c. search needs)
     returns-3)

@@ -4,9 +4,6 @@ use borrow.Author.Needs.{needs}
 use Rattle.check_slices.proofs.count_holds.Statement.{statement}
 use Rattle.check_slices.proofs.count_holds.Tie as tie
 
-is-enter-requires : tie.Need-is-enter-requires
-is-enter-requires c κs = search needs
-
 returns : tie.Need-returns
 returns c = search room-for-definition
 
@@ -20,4 +17,4 @@ returns-4 : tie.Need-returns-4
 returns-4 c = search exits-hold
 
 pub count-holds-spec : {M : Type 1} → statement M
-count-holds-spec = tie.close (tie.spec is-enter-requires returns returns-2 returns-3 returns-4)
+count-holds-spec = tie.close (tie.spec (λ c κs. search needs) returns returns-2 returns-3 returns-4)

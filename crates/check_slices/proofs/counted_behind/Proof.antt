@@ -4,17 +4,8 @@ use borrow.Author.Needs.{needs}
 use Rattle.check_slices.proofs.counted_behind.Statement.{statement}
 use Rattle.check_slices.proofs.counted_behind.Tie as tie
 
-is-enter-requires : tie.Need-is-enter-requires
-is-enter-requires c κs = search needs
-
-add-t5 : tie.Need-add-t5
-add-t5 c = search needs
-
 returns : tie.Need-returns
 returns c = search one-definition
-
-add-t6 : tie.Need-add-t6
-add-t6 c = search needs
 
 returns-2 : tie.Need-returns-2
 returns-2 c = search one-footnote
@@ -27,4 +18,4 @@ returns-4 c = search exits-uncounted
 
 pub counted-behind-spec : {M : Type 1} → statement M
 counted-behind-spec =
-    tie.close (tie.spec is-enter-requires add-t5 returns add-t6 returns-2 returns-3 returns-4)
+    tie.close (tie.spec (λ c κs. search needs) (λ c. search needs) returns (λ c. search needs) returns-2 returns-3 returns-4)

@@ -4,23 +4,11 @@ use borrow.Author.Needs.{needs}
 use Rattle.check_slices.proofs.is_ending.Statement.{statement}
 use Rattle.check_slices.proofs.is_ending.Tie as tie
 
-shared-slice-read-if2 : tie.Need-shared-slice-read-if2
-shared-slice-read-if2 c = search needs
-
 returns : tie.Need-returns
 returns c = search line-feed
 
-shared-slice-read-result : tie.Need-shared-slice-read-result
-shared-slice-read-result c = search needs
-
 returns-2 : tie.Need-returns-2
 returns-2 c = search or-return
-
-shared-slice-read-if4 : tie.Need-shared-slice-read-if4
-shared-slice-read-if4 c = search needs
-
-shared-slice-read-result-2 : tie.Need-shared-slice-read-result-2
-shared-slice-read-result-2 c = search needs
 
 returns-3 : tie.Need-returns-3
 returns-3 c = search return-and-feed
@@ -35,12 +23,12 @@ pub is-ending-spec : {M : Type 1} → statement M
 is-ending-spec =
     tie.close
     (tie.spec
-    shared-slice-read-if2
+    (λ c. search needs)
     returns
-    shared-slice-read-result
+    (λ c. search needs)
     returns-2
-    shared-slice-read-if4
-    shared-slice-read-result-2
+    (λ c. search needs)
+    (λ c. search needs)
     returns-3
     returns-4
     returns-5)

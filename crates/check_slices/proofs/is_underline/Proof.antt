@@ -7,18 +7,12 @@ use Rattle.check_slices.proofs.is_underline.Tie as tie
 returns : tie.Need-returns
 returns c = search no-underline
 
-shared-slice-read-if2 : tie.Need-shared-slice-read-if2
-shared-slice-read-if2 c = search needs
-
 returns-2 : tie.Need-returns-2
 returns-2 c = search dashes
-
-shared-slice-read-result : tie.Need-shared-slice-read-result
-shared-slice-read-result c = search needs
 
 returns-3 : tie.Need-returns-3
 returns-3 c = search or-equals
 
 pub is-underline-spec : {M : Type 1} → statement M
 is-underline-spec =
-    tie.close (tie.spec returns shared-slice-read-if2 returns-2 shared-slice-read-result returns-3)
+    tie.close (tie.spec returns (λ c. search needs) returns-2 (λ c. search needs) returns-3)

@@ -4,9 +4,6 @@ use borrow.Author.Needs.{needs}
 use Rattle.check_slices.proofs.seen_behind.Statement.{statement}
 use Rattle.check_slices.proofs.seen_behind.Tie as tie
 
-is-enter-requires : tie.Need-is-enter-requires
-is-enter-requires c κs = search needs
-
 returns : tie.Need-returns
 returns c = search behind-heading
 
@@ -32,7 +29,7 @@ pub seen-behind-spec : {M : Type 1} → statement M
 seen-behind-spec =
     tie.close
     (tie.spec
-    is-enter-requires
+    (λ c κs. search needs)
     returns
     returns-2
     returns-3

@@ -4,20 +4,11 @@ use borrow.Author.Needs.{needs}
 use Rattle.check_slices.proofs.slice_holds.Statement.{statement}
 use Rattle.check_slices.proofs.slice_holds.Tie as tie
 
-is-ending-requires : tie.Need-is-ending-requires
-is-ending-requires c κs = search needs
-
 returns : tie.Need-returns
 returns c = search of-3
 
-is-ending-requires-2 : tie.Need-is-ending-requires-2
-is-ending-requires-2 c κs = search needs
-
 returns-2 : tie.Need-returns-2
 returns-2 c = search of-4
-
-is-item-value-requires : tie.Need-is-item-value-requires
-is-item-value-requires c κs = search needs
 
 returns-3 : tie.Need-returns-3
 returns-3 c = search of-26
@@ -25,20 +16,11 @@ returns-3 c = search of-26
 returns-4 : tie.Need-returns-4
 returns-4 c = search of-later-14
 
-is-level-requires : tie.Need-is-level-requires
-is-level-requires c κs = search needs
-
 returns-5 : tie.Need-returns-5
 returns-5 c = search of-first-14
 
-is-underline-requires : tie.Need-is-underline-requires
-is-underline-requires c κs = search needs
-
 returns-6 : tie.Need-returns-6
 returns-6 c = search of-18
-
-is-reference-requires : tie.Need-is-reference-requires
-is-reference-requires c κs = search needs
 
 returns-7 : tie.Need-returns-7
 returns-7 c = search of-11
@@ -50,17 +32,17 @@ pub slice-holds-spec : {M : Type 1} → statement M
 slice-holds-spec =
     tie.close
     (tie.spec
-    is-ending-requires
+    (λ c κs. search needs)
     returns
-    is-ending-requires-2
+    (λ c κs. search needs)
     returns-2
-    is-item-value-requires
+    (λ c κs. search needs)
     returns-3
     returns-4
-    is-level-requires
+    (λ c κs. search needs)
     returns-5
-    is-underline-requires
+    (λ c κs. search needs)
     returns-6
-    is-reference-requires
+    (λ c κs. search needs)
     returns-7
     returns-8)

@@ -4,18 +4,6 @@ use Rattle.dispatch_exit_inline.proofs.exit_line_ending.Statement.{stat
 use Rattle.dispatch_exit_inline.proofs.exit_line_ending.Tie as tie
 use Rattle.dispatch_exit_inline.proofs.Views.{behind}
 
-behind-definition-requires : tie.Need-behind-definition-requires
-behind-definition-requires c κs = search needs
-
-on-exit-line-ending-requires : tie.Need-on-exit-line-ending-requires
-on-exit-line-ending-requires c κs = search needs
-
-same-length : tie.Need-same-length
-same-length c = search needs
-
-same-length-2 : tie.Need-same-length-2
-same-length-2 c = search needs
-
 returns : tie.Need-returns
 returns c = behind (c .before .before .before .before .before .before .before .behind-definition .ensures) (c .before .before .before .before .on-exit-line-ending .ensures)
 
@@ -23,8 +11,8 @@ pub exit-line-ending-spec : {M : Type 1} → statement M
 exit-line-ending-spec =
     tie.close
     (tie.spec
-    behind-definition-requires
-    on-exit-line-ending-requires
-    same-length
-    same-length-2
+    (λ c κs. search needs)
+    (λ c κs. search needs)
+    (λ c. search needs)
+    (λ c. search needs)
     returns)

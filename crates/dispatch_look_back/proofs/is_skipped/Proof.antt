@@ -4,11 +4,8 @@ use borrow.Author.Needs.{needs}
 use Rattle.dispatch_look_back.proofs.is_skipped.Statement.{statement}
 use Rattle.dispatch_look_back.proofs.is_skipped.Tie as tie
 
-is-definition-requires : tie.Need-is-definition-requires
-is-definition-requires c κs = search needs
-
 returns : tie.Need-returns
 returns c = search skipped
 
 pub is-skipped-spec : {M : Type 1} → statement M
-is-skipped-spec = tie.close (tie.spec is-definition-requires returns)
+is-skipped-spec = tie.close (tie.spec (λ c κs. search needs) returns)

@@ -19,21 +19,6 @@ abbrev μ-loop : tie.MeasureT-loop
 loop-holds : tie.Need-loop-holds Inv-loop μ-loop
 loop-holds c = search any-start
 
-add-is-one-special : tie.Need-add-is-one-special Inv-loop μ-loop
-add-is-one-special c = search needs
-
-shared-slice-read-is-one-special : tie.Need-shared-slice-read-is-one-special Inv-loop μ-loop
-shared-slice-read-is-one-special c = search needs
-
-is-one-special-requires : tie.Need-is-one-special-requires Inv-loop μ-loop
-is-one-special-requires c κs = search needs
-
-add-k : tie.Need-add-k Inv-loop μ-loop
-add-k c = search needs
-
-loop-less : tie.Need-loop-less Inv-loop μ-loop
-loop-less c = search needs
-
 loop-again : tie.Need-loop-again Inv-loop μ-loop
 loop-again c = search any-more
 
@@ -47,10 +32,10 @@ has-special-spec =
     Inv-loop
     μ-loop
     loop-holds
-    add-is-one-special
-    shared-slice-read-is-one-special
-    is-one-special-requires
-    add-k
-    loop-less
+    (λ c. search needs)
+    (λ c. search needs)
+    (λ c κs. search needs)
+    (λ c. search needs)
+    (λ c. search needs)
     loop-again
     returns)

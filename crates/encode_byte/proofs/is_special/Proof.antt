@@ -4,12 +4,6 @@ use borrow.Author.Needs.{needs}
 use Rattle.encode_byte.proofs.is_special.Statement.{statement}
 use Rattle.encode_byte.proofs.is_special.Tie as tie
 
-at-most-63-requires : tie.Need-at-most-63-requires
-at-most-63-requires c κs = search needs
-
-has-bit-requires : tie.Need-has-bit-requires
-has-bit-requires c κs = search needs
-
 returns : tie.Need-returns
 returns c = search by-mask
 
@@ -17,4 +11,4 @@ returns-2 : tie.Need-returns-2
 returns-2 c = search by-nul
 
 pub is-special-spec : {M : Type 1} → statement M
-is-special-spec = tie.close (tie.spec at-most-63-requires has-bit-requires returns returns-2)
+is-special-spec = tie.close (tie.spec (λ c κs. search needs) (λ c κs. search needs) returns returns-2)

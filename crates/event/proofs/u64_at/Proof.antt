@@ -4,24 +4,9 @@ use borrow.Author.Needs.{needs}
 use Rattle.event.proofs.u64_at.Statement.{statement}
 use Rattle.event.proofs.u64_at.Tie as tie
 
-u32-at-requires : tie.Need-u32-at-requires
-u32-at-requires c κs = search needs
-
-add-u32-at : tie.Need-add-u32-at
-add-u32-at c = search needs
-
-u32-at-requires-2 : tie.Need-u32-at-requires-2
-u32-at-requires-2 c κs = search needs
-
-mul-result : tie.Need-mul-result
-mul-result c = search needs
-
-add-result : tie.Need-add-result
-add-result c = search needs
-
 returns : tie.Need-returns
 returns c = search (halves 4 4)
 
 pub u64-at-spec : {M : Type 1} → statement M
 u64-at-spec =
-    tie.close (tie.spec u32-at-requires add-u32-at u32-at-requires-2 mul-result add-result returns)
+    tie.close (tie.spec (λ c κs. search needs) (λ c. search needs) (λ c κs. search needs) (λ c. search needs) (λ c. search needs) returns)

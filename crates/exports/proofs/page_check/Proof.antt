@@ -4,14 +4,8 @@ use Rattle.exports.proofs.page_check.Statement.{statement}
 use Rattle.exports.proofs.page_check.Tie as tie
 use Rattle.exports.proofs.Laws.{checks}
 
-check-requires : tie.Need-check-requires
-check-requires c κs = search needs
-
-number-requires : tie.Need-number-requires
-number-requires c κs = search needs
-
 returns : tie.Need-returns
 returns c = search checks
 
 pub page-check-spec : {M : Type 1} → statement M
-page-check-spec = tie.close (tie.spec check-requires number-requires returns)
+page-check-spec = tie.close (tie.spec (λ c κs. search needs) (λ c κs. search needs) returns)

@@ -6,9 +6,6 @@ use borrow.Author.Needs.{needs}
 use Rattle.normalize_identifier.proofs.fold.Statement.{statement}
 use Rattle.normalize_identifier.proofs.fold.Tie as tie
 
-sub-result : tie.Need-sub-result
-sub-result c = search needs
-
 returns : tie.Need-returns
 unfolding folded
 returns c = search (le-leb, le-of-suc-le-suc)
@@ -22,4 +19,4 @@ unfolding folded
 returns-3 c = search (le-leb, lt-leb)
 
 pub fold-spec : {M : Type 1} → statement M
-fold-spec = tie.close (tie.spec sub-result returns returns-2 returns-3)
+fold-spec = tie.close (tie.spec (λ c. search needs) returns returns-2 returns-3)

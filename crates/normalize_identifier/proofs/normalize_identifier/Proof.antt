@@ -14,29 +14,11 @@ Inv-loop value out₀ at c₀ end₀ out c end = Left out₀ at (identityOf valu
 abbrev μ-loop : tie.MeasureT-loop
 μ-loop value out₀ at c₀ end₀ out c end = length value - c .at
 
-start-requires : tie.Need-start-requires Inv-loop μ-loop
-start-requires c κs = search needs
-
 loop-holds : tie.Need-loop-holds Inv-loop μ-loop
 loop-holds c = search (all, left-start)
 
-next-requires : tie.Need-next-requires Inv-loop μ-loop
-next-requires c κs = search needs
-
-enum-known-b : tie.Need-enum-known-b Inv-loop μ-loop
-enum-known-b c = search needs
-
-enum-told : tie.Need-enum-told Inv-loop μ-loop
-enum-told c = search needs
-
-same-length : tie.Need-same-length Inv-loop μ-loop
-same-length c = search needs
-
 returns : tie.Need-returns Inv-loop μ-loop
 returns c = search (done, left-end)
-
-put-requires : tie.Need-put-requires Inv-loop μ-loop
-put-requires c κs = search needs
 
 loop-less : tie.Need-loop-less Inv-loop μ-loop
 loop-less c = search forward-more
@@ -50,13 +32,13 @@ normalize-identifier-spec =
     (tie.spec
     Inv-loop
     μ-loop
-    start-requires
+    (λ c κs. search needs)
     loop-holds
-    next-requires
-    enum-known-b
-    enum-told
-    same-length
+    (λ c κs. search needs)
+    (λ c. search needs)
+    (λ c. search needs)
+    (λ c. search needs)
     returns
-    put-requires
+    (λ c κs. search needs)
     loop-less
     loop-again)

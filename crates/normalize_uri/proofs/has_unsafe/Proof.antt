@@ -19,21 +19,6 @@ abbrev μ-loop : tie.MeasureT-loop
 loop-holds : tie.Need-loop-holds Inv-loop μ-loop
 loop-holds c = search any-start
 
-add-is-unsafe : tie.Need-add-is-unsafe Inv-loop μ-loop
-add-is-unsafe c = search needs
-
-shared-slice-read-is-unsafe : tie.Need-shared-slice-read-is-unsafe Inv-loop μ-loop
-shared-slice-read-is-unsafe c = search needs
-
-is-unsafe-requires : tie.Need-is-unsafe-requires Inv-loop μ-loop
-is-unsafe-requires c κs = search needs
-
-add-k : tie.Need-add-k Inv-loop μ-loop
-add-k c = search needs
-
-loop-less : tie.Need-loop-less Inv-loop μ-loop
-loop-less c = search needs
-
 loop-again : tie.Need-loop-again Inv-loop μ-loop
 loop-again c = search any-more
 
@@ -47,10 +32,10 @@ has-unsafe-spec =
     Inv-loop
     μ-loop
     loop-holds
-    add-is-unsafe
-    shared-slice-read-is-unsafe
-    is-unsafe-requires
-    add-k
-    loop-less
+    (λ c. search needs)
+    (λ c. search needs)
+    (λ c κs. search needs)
+    (λ c. search needs)
+    (λ c. search needs)
     loop-again
     returns)

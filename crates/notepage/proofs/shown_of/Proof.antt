@@ -4,24 +4,6 @@ use borrow.Author.Needs.{needs}
 use Rattle.notepage.proofs.shown_of.Statement.{statement}
 use Rattle.notepage.proofs.shown_of.Tie as tie
 
-enum-known-b : tie.Need-enum-known-b
-enum-known-b c = search needs
-
-enum-known-b-2 : tie.Need-enum-known-b-2
-enum-known-b-2 c = search needs
-
-number-requires : tie.Need-number-requires
-number-requires c κs = search needs
-
-place-requires : tie.Need-place-requires
-place-requires c κs = search needs
-
-enum-known-b-3 : tie.Need-enum-known-b-3
-enum-known-b-3 c = search needs
-
-enum-known-b-4 : tie.Need-enum-known-b-4
-enum-known-b-4 c = search needs
-
 returns : tie.Need-returns
 returns c = search page-shown
 
@@ -38,12 +20,12 @@ pub shown-of-spec : {M : Type 1} → statement M
 shown-of-spec =
     tie.close
     (tie.spec
-    enum-known-b
-    enum-known-b-2
-    number-requires
-    place-requires
-    enum-known-b-3
-    enum-known-b-4
+    (λ c. search needs)
+    (λ c. search needs)
+    (λ c κs. search needs)
+    (λ c κs. search needs)
+    (λ c. search needs)
+    (λ c. search needs)
     returns
     returns-2
     returns-3

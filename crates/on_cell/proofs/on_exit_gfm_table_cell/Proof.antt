@@ -7,15 +7,6 @@ use Rattle.state_context.proofs.Commands.{sets, whether-no}
 use Rattle.state_context.proofs.Slices.{takes-seq}
 use Rattle.on_cell.proofs.Either.{ends, takes-yes, takes-none}
 
-is-past-columns-requires : tie.Need-is-past-columns-requires
-is-past-columns-requires c κs = search needs
-
-drop-requires : tie.Need-drop-requires
-drop-requires c κs = search needs
-
-next-column-requires : tie.Need-next-column-requires
-next-column-requires c κs = search needs
-
 returns : tie.Need-returns
 unfolding onExitGfmTableCell
 returns c =
@@ -23,18 +14,6 @@ returns c =
     let c2 = c3 .before in
     let c1 = c2 .before .before in
     takes-seq (takes-yes (c1 .is-past-columns .ensures) (search needs) (ends (c2 .drop .ensures))) (sets (c3 .next-column .ensures))
-
-close-cell-requires : tie.Need-close-cell-requires
-close-cell-requires c κs = search needs
-
-next-column-requires-2 : tie.Need-next-column-requires-2
-next-column-requires-2 c κs = search needs
-
-same-length : tie.Need-same-length
-same-length c = search needs
-
-same-length-2 : tie.Need-same-length-2
-same-length-2 c = search needs
 
 returns-2 : tie.Need-returns-2
 unfolding onExitGfmTableCell
@@ -48,12 +27,12 @@ pub on-exit-gfm-table-cell-spec : {M : Type 1} → statement M
 on-exit-gfm-table-cell-spec =
     tie.close
     (tie.spec
-    is-past-columns-requires
-    drop-requires
-    next-column-requires
+    (λ c κs. search needs)
+    (λ c κs. search needs)
+    (λ c κs. search needs)
     returns
-    close-cell-requires
-    next-column-requires-2
-    same-length
-    same-length-2
+    (λ c κs. search needs)
+    (λ c κs. search needs)
+    (λ c. search needs)
+    (λ c. search needs)
     returns-2)

@@ -6,21 +6,6 @@ use native.Mathlib.Omega.{arith}
 use Rattle.machine.specs.OnCell.{onExitGfmTableRow}
 use Rattle.state_context.proofs.Commands.{sets, seq, puts}
 
-push-missing-cells-requires : tie.Need-push-missing-cells-requires
-push-missing-cells-requires c κs = search needs
-
-first-column-requires : tie.Need-first-column-requires
-first-column-requires c κs = search needs
-
-line-ending-if-needed-requires : tie.Need-line-ending-if-needed-requires
-line-ending-if-needed-requires c κs = search needs
-
-slice-aggregate-push : tie.Need-slice-aggregate-push
-slice-aggregate-push c = search needs
-
-push-requires : tie.Need-push-requires
-push-requires c κs = search needs
-
 same-length : tie.Need-same-length
 same-length c =
     let c4 = c .before .before .before .before in
@@ -50,11 +35,11 @@ pub on-exit-gfm-table-row-spec : {M : Type 1} → statement M
 on-exit-gfm-table-row-spec =
     tie.close
     (tie.spec
-    push-missing-cells-requires
-    first-column-requires
-    line-ending-if-needed-requires
-    slice-aggregate-push
-    push-requires
+    (λ c κs. search needs)
+    (λ c κs. search needs)
+    (λ c κs. search needs)
+    (λ c. search needs)
+    (λ c κs. search needs)
     same-length
     same-length-2
     returns)

@@ -5,21 +5,6 @@ use Rattle.on_cell.proofs.open_cell.Tie as tie
 use native.Mathlib.Omega.{arith}
 use Rattle.state_context.proofs.Commands.{seq, puts}
 
-line-ending-if-needed-requires : tie.Need-line-ending-if-needed-requires
-line-ending-if-needed-requires c κs = search needs
-
-push-cell-name-requires : tie.Need-push-cell-name-requires
-push-cell-name-requires c κs = search needs
-
-push-alignment-requires : tie.Need-push-alignment-requires
-push-alignment-requires c κs = search needs
-
-slice-aggregate-push : tie.Need-slice-aggregate-push
-slice-aggregate-push c = search needs
-
-push-requires : tie.Need-push-requires
-push-requires c κs = search needs
-
 same-length : tie.Need-same-length
 same-length c =
     let c4 = c .before .before .before .before in
@@ -48,11 +33,11 @@ pub open-cell-spec : {M : Type 1} → statement M
 open-cell-spec =
     tie.close
     (tie.spec
-    line-ending-if-needed-requires
-    push-cell-name-requires
-    push-alignment-requires
-    slice-aggregate-push
-    push-requires
+    (λ c κs. search needs)
+    (λ c κs. search needs)
+    (λ c κs. search needs)
+    (λ c. search needs)
+    (λ c κs. search needs)
     same-length
     same-length-2
     returns)

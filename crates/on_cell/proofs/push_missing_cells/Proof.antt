@@ -13,32 +13,14 @@ Inv-loop captures₀ out₀ r₀ left₀ captures out r left = Left r₀ capture
 abbrev μ-loop : tie.MeasureT-loop
 μ-loop captures₀ out₀ r₀ left₀ captures out r left = left
 
-missing-requires : tie.Need-missing-requires Inv-loop μ-loop
-missing-requires c κs = search needs
-
 loop-holds : tie.Need-loop-holds Inv-loop μ-loop
 loop-holds c = (search all-left, search needs, search needs)
-
-push-phantom-cell-requires : tie.Need-push-phantom-cell-requires Inv-loop μ-loop
-push-phantom-cell-requires c κs = search needs
-
-sub-left : tie.Need-sub-left Inv-loop μ-loop
-sub-left c = search needs
-
-loop-less : tie.Need-loop-less Inv-loop μ-loop
-loop-less c = search needs
 
 loop-again : tie.Need-loop-again Inv-loop μ-loop
 loop-again c =
     let c1 = c .before .before .before .before in
     let c0 = c1 .before .before .before .before in
     (one-less (c0 .loop .inv .0) (omega arith) (c1 .push-phantom-cell .ensures), search needs, search needs)
-
-same-length : tie.Need-same-length Inv-loop μ-loop
-same-length c = search needs
-
-same-length-2 : tie.Need-same-length-2 Inv-loop μ-loop
-same-length-2 c = search needs
 
 returns : tie.Need-returns Inv-loop μ-loop
 returns c = search none-left
@@ -49,12 +31,12 @@ push-missing-cells-spec =
     (tie.spec
     Inv-loop
     μ-loop
-    missing-requires
+    (λ c κs. search needs)
     loop-holds
-    push-phantom-cell-requires
-    sub-left
-    loop-less
+    (λ c κs. search needs)
+    (λ c. search needs)
+    (λ c. search needs)
     loop-again
-    same-length
-    same-length-2
+    (λ c. search needs)
+    (λ c. search needs)
     returns)

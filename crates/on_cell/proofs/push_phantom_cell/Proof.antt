@@ -6,21 +6,6 @@ use Rattle.on_cell.proofs.Cells.{adds}
 use Rattle.on_cell.proofs.push_phantom_cell.Statement.{statement}
 use Rattle.on_cell.proofs.push_phantom_cell.Tie as tie
 
-line-ending-if-needed-requires : tie.Need-line-ending-if-needed-requires
-line-ending-if-needed-requires c κs = search needs
-
-push-cell-name-requires : tie.Need-push-cell-name-requires
-push-cell-name-requires c κs = search needs
-
-push-alignment-requires : tie.Need-push-alignment-requires
-push-alignment-requires c κs = search needs
-
-end-empty-cell-requires : tie.Need-end-empty-cell-requires
-end-empty-cell-requires c κs = search needs
-
-next-column-requires : tie.Need-next-column-requires
-next-column-requires c κs = search needs
-
 same-length : tie.Need-same-length
 same-length c =
     let c5 = c in
@@ -52,11 +37,11 @@ pub push-phantom-cell-spec : {M : Type 1} → statement M
 push-phantom-cell-spec =
     tie.close
     (tie.spec
-    line-ending-if-needed-requires
-    push-cell-name-requires
-    push-alignment-requires
-    end-empty-cell-requires
-    next-column-requires
+    (λ c κs. search needs)
+    (λ c κs. search needs)
+    (λ c κs. search needs)
+    (λ c κs. search needs)
+    (λ c κs. search needs)
     same-length
     same-length-2
     returns)

@@ -5,39 +5,6 @@ use Rattle.on_definition.proofs.keep_at.Tie as tie
 use native.Mathlib.Omega.{arith}
 use Rattle.on_definition.proofs.Keeps.{keeps-pieces}
 
-own-piece-requires : tie.Need-own-piece-requires
-own-piece-requires c κs = search needs
-
-text-piece-requires : tie.Need-text-piece-requires
-text-piece-requires c κs = search needs
-
-word-of-requires : tie.Need-word-of-requires
-word-of-requires c κs = search needs
-
-at-most-requires : tie.Need-at-most-requires
-at-most-requires c κs = search needs
-
-at-most-requires-2 : tie.Need-at-most-requires-2
-at-most-requires-2 c κs = search needs
-
-add-keep-definition : tie.Need-add-keep-definition
-add-keep-definition c = search needs
-
-add-keep-definition-2 : tie.Need-add-keep-definition-2
-add-keep-definition-2 c = search needs
-
-keep-definition-requires : tie.Need-keep-definition-requires
-keep-definition-requires c κs = search needs
-
-close-media-requires : tie.Need-close-media-requires
-close-media-requires c κs = search needs
-
-same-length : tie.Need-same-length
-same-length c = search needs
-
-same-length-2 : tie.Need-same-length-2
-same-length-2 c = search needs
-
 returns : tie.Need-returns
 returns c =
     let c6 = c .before .before .before .before .before in
@@ -52,15 +19,15 @@ pub keep-at-spec : {M : Type 1} → statement M
 keep-at-spec =
     tie.close
     (tie.spec
-    own-piece-requires
-    text-piece-requires
-    word-of-requires
-    at-most-requires
-    at-most-requires-2
-    add-keep-definition
-    add-keep-definition-2
-    keep-definition-requires
-    close-media-requires
-    same-length
-    same-length-2
+    (λ c κs. search needs)
+    (λ c κs. search needs)
+    (λ c κs. search needs)
+    (λ c κs. search needs)
+    (λ c κs. search needs)
+    (λ c. search needs)
+    (λ c. search needs)
+    (λ c κs. search needs)
+    (λ c κs. search needs)
+    (λ c. search needs)
+    (λ c. search needs)
     returns)

@@ -9,15 +9,6 @@ use Rattle.state_whole.proofs.Media.{opens-media}
 use Rattle.on_link.proofs.Lifted.{lifts-begins}
 use Rattle.on_link.proofs.Chains.{then-on-starts}
 
-open-requires : tie.Need-open-requires
-open-requires c κs = search needs
-
-open-media-requires : tie.Need-open-media-requires
-open-media-requires c κs = search needs
-
-same-length : tie.Need-same-length
-same-length c = search needs
-
 returns : tie.Need-returns
 unfolding onEnterDefinition
 returns c =
@@ -26,4 +17,4 @@ returns c =
 
 pub on-enter-definition-spec : {M : Type 1} → statement M
 on-enter-definition-spec =
-    tie.close (tie.spec open-requires open-media-requires same-length returns)
+    tie.close (tie.spec (λ c κs. search needs) (λ c κs. search needs) (λ c. search needs) returns)

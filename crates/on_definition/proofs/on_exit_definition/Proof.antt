@@ -5,18 +5,6 @@ use Rattle.on_definition.proofs.on_exit_definition.Tie as tie
 use Rattle.machine.specs.OnDefinition.{onExitDefinition}
 use Rattle.on_definition.proofs.Keeps.{dropped-first}
 
-drop-requires : tie.Need-drop-requires
-drop-requires c κs = search needs
-
-keep-newest-requires : tie.Need-keep-newest-requires
-keep-newest-requires c κs = search needs
-
-same-length : tie.Need-same-length
-same-length c = search needs
-
-same-length-2 : tie.Need-same-length-2
-same-length-2 c = search needs
-
 returns : tie.Need-returns
 unfolding onExitDefinition
 returns c =
@@ -26,4 +14,4 @@ returns c =
 
 pub on-exit-definition-spec : {M : Type 1} → statement M
 on-exit-definition-spec =
-    tie.close (tie.spec drop-requires keep-newest-requires same-length same-length-2 returns)
+    tie.close (tie.spec (λ c κs. search needs) (λ c κs. search needs) (λ c. search needs) (λ c. search needs) returns)

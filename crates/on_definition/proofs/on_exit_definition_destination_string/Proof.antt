@@ -4,16 +4,10 @@ use Rattle.on_definition.proofs.on_exit_definition_destination_string.S
 use Rattle.on_definition.proofs.on_exit_definition_destination_string.Tie as tie
 use Rattle.machine.specs.OnDefinition.{onExitDefinitionDestinationString}
 
-store-destination-requires : tie.Need-store-destination-requires
-store-destination-requires c κs = search needs
-
-same-length : tie.Need-same-length
-same-length c = search needs
-
 returns : tie.Need-returns
 unfolding onExitDefinitionDestinationString
 returns c = search needs
 
 pub on-exit-definition-destination-string-spec : {M : Type 1} → statement M
 on-exit-definition-destination-string-spec =
-    tie.close (tie.spec store-destination-requires same-length returns)
+    tie.close (tie.spec (λ c κs. search needs) (λ c. search needs) returns)

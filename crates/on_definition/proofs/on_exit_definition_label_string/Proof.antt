@@ -4,12 +4,9 @@ use Rattle.on_definition.proofs.on_exit_definition_label_string.Stateme
 use Rattle.on_definition.proofs.on_exit_definition_label_string.Tie as tie
 use Rattle.machine.specs.OnDefinition.{onExitDefinitionLabelString}
 
-identify-reference-requires : tie.Need-identify-reference-requires
-identify-reference-requires c κs = search needs
-
 returns : tie.Need-returns
 unfolding onExitDefinitionLabelString
 returns c = search needs
 
 pub on-exit-definition-label-string-spec : {M : Type 1} → statement M
-on-exit-definition-label-string-spec = tie.close (tie.spec identify-reference-requires returns)
+on-exit-definition-label-string-spec = tie.close (tie.spec (λ c κs. search needs) returns)

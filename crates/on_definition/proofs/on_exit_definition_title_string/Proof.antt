@@ -4,16 +4,10 @@ use Rattle.on_definition.proofs.on_exit_definition_title_string.Stateme
 use Rattle.on_definition.proofs.on_exit_definition_title_string.Tie as tie
 use Rattle.machine.specs.OnDefinition.{onExitDefinitionTitleString}
 
-store-title-requires : tie.Need-store-title-requires
-store-title-requires c κs = search needs
-
-same-length : tie.Need-same-length
-same-length c = search needs
-
 returns : tie.Need-returns
 unfolding onExitDefinitionTitleString
 returns c = search needs
 
 pub on-exit-definition-title-string-spec : {M : Type 1} → statement M
 on-exit-definition-title-string-spec =
-    tie.close (tie.spec store-title-requires same-length returns)
+    tie.close (tie.spec (λ c κs. search needs) (λ c. search needs) returns)

@@ -4,18 +4,6 @@ use Rattle.on_definition.proofs.seek_at.Statement.{statement}
 use Rattle.on_definition.proofs.seek_at.Tie as tie
 use Rattle.on_definition.proofs.Seeks.{seeks-nothing, seeks-found}
 
-find-definition-requires : tie.Need-find-definition-requires
-find-definition-requires c κs = search needs
-
-enum-told : tie.Need-enum-told
-enum-told c = search needs
-
-enum-known-found : tie.Need-enum-known-found
-enum-known-found c = search needs
-
-lead-to-requires : tie.Need-lead-to-requires
-lead-to-requires c κs = search needs
-
 returns : tie.Need-returns
 returns c = seeks-nothing (c .before .before .find-definition .ensures) (search needs)
 
@@ -26,9 +14,9 @@ pub seek-at-spec : {M : Type 1} → statement M
 seek-at-spec =
     tie.close
     (tie.spec
-    find-definition-requires
-    enum-told
-    enum-known-found
-    lead-to-requires
+    (λ c κs. search needs)
+    (λ c. search needs)
+    (λ c. search needs)
+    (λ c κs. search needs)
     returns
     returns-2)

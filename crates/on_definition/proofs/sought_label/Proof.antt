@@ -4,17 +4,8 @@ use Rattle.on_definition.proofs.sought_label.Statement.{statement}
 use Rattle.on_definition.proofs.sought_label.Tie as tie
 use Rattle.on_definition.proofs.Pieces.{sought-is}
 
-enum-told : tie.Need-enum-told
-enum-told c = search needs
-
-enum-known-reference : tie.Need-enum-known-reference
-enum-known-reference c = search needs
-
-returns : tie.Need-returns
-returns c = search needs
-
 returns-2 : tie.Need-returns-2
 returns-2 c = search sought-is
 
 pub sought-label-spec : {M : Type 1} → statement M
-sought-label-spec = tie.close (tie.spec enum-told enum-known-reference returns returns-2)
+sought-label-spec = tie.close (tie.spec (λ c. search needs) (λ c. search needs) (λ c. search needs) returns-2)

@@ -5,16 +5,10 @@ use Rattle.on_flow.proofs.end_open_code.Tie as tie
 use native.Mathlib.Omega.{arith}
 use Rattle.state_context.proofs.Commands.{any, idle, sets, seq, puts, whether-yes, whether-no, met, unmet, told, tells-fence}
 
-is-fenced-once-requires : tie.Need-is-fenced-once-requires
-is-fenced-once-requires c κs = search needs
-
 returns : tie.Need-returns
 returns c =
     let c1 = c .before in
     unmet (told (c1 .is-fenced-once .ensures)) (search needs) idle
-
-is-in-container-requires : tie.Need-is-in-container-requires
-is-in-container-requires c κs = search needs
 
 returns-2 : tie.Need-returns-2
 returns-2 c =
@@ -28,15 +22,6 @@ returns-3 c =
     let c1 = c2 .before .before in
     met (told (c1 .is-fenced-once .ensures)) (search needs) (met (told (c2 .is-in-container .ensures)) (search needs) (whether-yes tells-fence (search needs) idle))
 
-line-ending-requires : tie.Need-line-ending-requires
-line-ending-requires c κs = search needs
-
-same-length : tie.Need-same-length
-same-length c = search needs
-
-same-length-2 : tie.Need-same-length-2
-same-length-2 c = search needs
-
 returns-4 : tie.Need-returns-4
 returns-4 c =
     let c3 = c .before .before .before .before in
@@ -48,12 +33,12 @@ pub end-open-code-spec : {M : Type 1} → statement M
 end-open-code-spec =
     tie.close
     (tie.spec
-    is-fenced-once-requires
+    (λ c κs. search needs)
     returns
-    is-in-container-requires
+    (λ c κs. search needs)
     returns-2
     returns-3
-    line-ending-requires
-    same-length
-    same-length-2
+    (λ c κs. search needs)
+    (λ c. search needs)
+    (λ c. search needs)
     returns-4)

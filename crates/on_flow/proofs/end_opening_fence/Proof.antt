@@ -5,18 +5,6 @@ use Rattle.on_flow.proofs.end_opening_fence.Tie as tie
 use native.Mathlib.Omega.{arith}
 use Rattle.state_context.proofs.Commands.{any, idle, sets, seq, puts, whether-yes, whether-no, met, unmet, told, tells-fence}
 
-is-first-fence-requires : tie.Need-is-first-fence-requires
-is-first-fence-requires c κs = search needs
-
-slice-aggregate-push : tie.Need-slice-aggregate-push
-slice-aggregate-push c = search needs
-
-push-requires : tie.Need-push-requires
-push-requires c κs = search needs
-
-set-slurp-requires : tie.Need-set-slurp-requires
-set-slurp-requires c κs = search needs
-
 same-length : tie.Need-same-length
 same-length c =
     let c1 = c .before .before .before .before .before in
@@ -43,10 +31,10 @@ pub end-opening-fence-spec : {M : Type 1} → statement M
 end-opening-fence-spec =
     tie.close
     (tie.spec
-    is-first-fence-requires
-    slice-aggregate-push
-    push-requires
-    set-slurp-requires
+    (λ c κs. search needs)
+    (λ c. search needs)
+    (λ c κs. search needs)
+    (λ c κs. search needs)
     same-length
     same-length-2
     returns

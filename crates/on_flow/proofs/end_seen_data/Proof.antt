@@ -5,18 +5,6 @@ use Rattle.on_flow.proofs.end_seen_data.Tie as tie
 use native.Mathlib.Omega.{arith}
 use Rattle.state_context.proofs.Commands.{any, idle, sets, seq, puts, whether-yes, whether-no, met, unmet, told, tells-fence}
 
-has-seen-data-requires : tie.Need-has-seen-data-requires
-has-seen-data-requires c κs = search needs
-
-line-ending-if-needed-requires : tie.Need-line-ending-if-needed-requires
-line-ending-if-needed-requires c κs = search needs
-
-same-length : tie.Need-same-length
-same-length c = search needs
-
-same-length-2 : tie.Need-same-length-2
-same-length-2 c = search needs
-
 returns : tie.Need-returns
 returns c =
     let c2 = c .before .before .before .before in
@@ -32,9 +20,9 @@ pub end-seen-data-spec : {M : Type 1} → statement M
 end-seen-data-spec =
     tie.close
     (tie.spec
-    has-seen-data-requires
-    line-ending-if-needed-requires
-    same-length
-    same-length-2
+    (λ c κs. search needs)
+    (λ c κs. search needs)
+    (λ c. search needs)
+    (λ c. search needs)
     returns
     returns-2)

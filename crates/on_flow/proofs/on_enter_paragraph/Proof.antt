@@ -5,27 +5,9 @@ use Rattle.on_flow.proofs.on_enter_paragraph.Tie as tie
 use Rattle.machine.specs.OnFlow.{onEnterParagraph}
 use Rattle.state_context.proofs.Commands.{any, idle, sets, seq, puts, whether-yes, whether-no}
 
-is-tight-requires : tie.Need-is-tight-requires
-is-tight-requires c κs = search needs
-
 returns : tie.Need-returns
 unfolding onEnterParagraph
 returns c = search (whether-yes, idle)
-
-line-ending-if-needed-requires : tie.Need-line-ending-if-needed-requires
-line-ending-if-needed-requires c κs = search needs
-
-slice-aggregate-push : tie.Need-slice-aggregate-push
-slice-aggregate-push c = search needs
-
-push-requires : tie.Need-push-requires
-push-requires c κs = search needs
-
-same-length : tie.Need-same-length
-same-length c = search needs
-
-same-length-2 : tie.Need-same-length-2
-same-length-2 c = search needs
 
 returns-2 : tie.Need-returns-2
 unfolding onEnterParagraph
@@ -39,11 +21,11 @@ pub on-enter-paragraph-spec : {M : Type 1} → statement M
 on-enter-paragraph-spec =
     tie.close
     (tie.spec
-    is-tight-requires
+    (λ c κs. search needs)
     returns
-    line-ending-if-needed-requires
-    slice-aggregate-push
-    push-requires
-    same-length
-    same-length-2
+    (λ c κs. search needs)
+    (λ c. search needs)
+    (λ c κs. search needs)
+    (λ c. search needs)
+    (λ c. search needs)
     returns-2)

@@ -6,21 +6,6 @@ use native.Mathlib.Omega.{arith}
 use Rattle.machine.specs.OnFlow.{onEnterRawFlow}
 use Rattle.state_context.proofs.Commands.{any, idle, sets, seq, puts, whether-yes, whether-no, met, unmet, told, tells-fence}
 
-set-seen-requires : tie.Need-set-seen-requires
-set-seen-requires c κs = search needs
-
-line-ending-if-needed-requires : tie.Need-line-ending-if-needed-requires
-line-ending-if-needed-requires c κs = search needs
-
-slice-aggregate-push : tie.Need-slice-aggregate-push
-slice-aggregate-push c = search needs
-
-push-requires : tie.Need-push-requires
-push-requires c κs = search needs
-
-open-fences-requires : tie.Need-open-fences-requires
-open-fences-requires c κs = search needs
-
 same-length : tie.Need-same-length
 same-length c =
     let c2 = c .before .before .before .before .before in
@@ -46,11 +31,11 @@ pub on-enter-raw-flow-spec : {M : Type 1} → statement M
 on-enter-raw-flow-spec =
     tie.close
     (tie.spec
-    set-seen-requires
-    line-ending-if-needed-requires
-    slice-aggregate-push
-    push-requires
-    open-fences-requires
+    (λ c κs. search needs)
+    (λ c κs. search needs)
+    (λ c. search needs)
+    (λ c κs. search needs)
+    (λ c κs. search needs)
     same-length
     same-length-2
     returns)

@@ -6,30 +6,6 @@ use native.Mathlib.Omega.{arith}
 use Rattle.machine.specs.OnFlow.{onExitRawFlow}
 use Rattle.state_context.proofs.Commands.{any, idle, sets, seq, puts, whether-yes, whether-no, met, unmet, told, tells-fence}
 
-end-open-code-requires : tie.Need-end-open-code-requires
-end-open-code-requires c κs = search needs
-
-end-seen-data-requires : tie.Need-end-seen-data-requires
-end-seen-data-requires c κs = search needs
-
-set-seen-requires : tie.Need-set-seen-requires
-set-seen-requires c κs = search needs
-
-slice-aggregate-push : tie.Need-slice-aggregate-push
-slice-aggregate-push c = search needs
-
-push-requires : tie.Need-push-requires
-push-requires c κs = search needs
-
-end-missing-fence-requires : tie.Need-end-missing-fence-requires
-end-missing-fence-requires c κs = search needs
-
-end-fences-requires : tie.Need-end-fences-requires
-end-fences-requires c κs = search needs
-
-set-slurp-requires : tie.Need-set-slurp-requires
-set-slurp-requires c κs = search needs
-
 same-length : tie.Need-same-length
 same-length c =
     let c4 = c .before .before .before .before .before .before in
@@ -62,14 +38,14 @@ pub on-exit-raw-flow-spec : {M : Type 1} → statement M
 on-exit-raw-flow-spec =
     tie.close
     (tie.spec
-    end-open-code-requires
-    end-seen-data-requires
-    set-seen-requires
-    slice-aggregate-push
-    push-requires
-    end-missing-fence-requires
-    end-fences-requires
-    set-slurp-requires
+    (λ c κs. search needs)
+    (λ c κs. search needs)
+    (λ c κs. search needs)
+    (λ c. search needs)
+    (λ c κs. search needs)
+    (λ c κs. search needs)
+    (λ c κs. search needs)
+    (λ c κs. search needs)
     same-length
     same-length-2
     returns)

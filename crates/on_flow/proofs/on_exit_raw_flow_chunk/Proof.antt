@@ -5,18 +5,6 @@ use Rattle.on_flow.proofs.on_exit_raw_flow_chunk.Tie as tie
 use Rattle.machine.specs.OnFlow.{onExitRawFlowChunk}
 use Rattle.state_context.proofs.Commands.{seq, sets}
 
-set-seen-requires : tie.Need-set-seen-requires
-set-seen-requires c κs = search needs
-
-push-chunk-requires : tie.Need-push-chunk-requires
-push-chunk-requires c κs = search needs
-
-same-length : tie.Need-same-length
-same-length c = search needs
-
-same-length-2 : tie.Need-same-length-2
-same-length-2 c = search needs
-
 returns : tie.Need-returns
 unfolding onExitRawFlowChunk
 returns c =
@@ -26,4 +14,4 @@ returns c =
 
 pub on-exit-raw-flow-chunk-spec : {M : Type 1} → statement M
 on-exit-raw-flow-chunk-spec =
-    tie.close (tie.spec set-seen-requires push-chunk-requires same-length same-length-2 returns)
+    tie.close (tie.spec (λ c κs. search needs) (λ c κs. search needs) (λ c. search needs) (λ c. search needs) returns)

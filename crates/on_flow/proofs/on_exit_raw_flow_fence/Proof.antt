@@ -6,12 +6,6 @@ use native.Mathlib.Omega.{arith}
 use Rattle.machine.specs.OnFlow.{onExitRawFlowFence}
 use Rattle.state_context.proofs.Commands.{any, idle, sets, seq, puts, whether-yes, whether-no, met, unmet, told, tells-fence}
 
-end-opening-fence-requires : tie.Need-end-opening-fence-requires
-end-opening-fence-requires c κs = search needs
-
-count-fence-requires : tie.Need-count-fence-requires
-count-fence-requires c κs = search needs
-
 same-length : tie.Need-same-length
 same-length c =
     let c1 = c .before .before .before .before .before in
@@ -32,4 +26,4 @@ returns c =
 pub on-exit-raw-flow-fence-spec : {M : Type 1} → statement M
 on-exit-raw-flow-fence-spec =
     tie.close
-    (tie.spec end-opening-fence-requires count-fence-requires same-length same-length-2 returns)
+    (tie.spec (λ c κs. search needs) (λ c κs. search needs) same-length same-length-2 returns)

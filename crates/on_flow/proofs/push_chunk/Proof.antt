@@ -10,24 +10,6 @@ returns c = search chunk-back
 returns-2 : tie.Need-returns-2
 returns-2 c = search chunk-out
 
-encodes-requires : tie.Need-encodes-requires
-encodes-requires c κs = search needs
-
-part-push-padded-start : tie.Need-part-push-padded-start
-part-push-padded-start c = search needs
-
-part-push-padded-end : tie.Need-part-push-padded-end
-part-push-padded-end c = search needs
-
-push-padded-requires : tie.Need-push-padded-requires
-push-padded-requires c κs = search needs
-
-same-length : tie.Need-same-length
-same-length c = search needs
-
-same-length-2 : tie.Need-same-length-2
-same-length-2 c = search needs
-
 returns-3 : tie.Need-returns-3
 returns-3 c = search chunks
 
@@ -37,10 +19,10 @@ push-chunk-spec =
     (tie.spec
     returns
     returns-2
-    encodes-requires
-    part-push-padded-start
-    part-push-padded-end
-    push-padded-requires
-    same-length
-    same-length-2
+    (λ c κs. search needs)
+    (λ c. search needs)
+    (λ c. search needs)
+    (λ c κs. search needs)
+    (λ c. search needs)
+    (λ c. search needs)
     returns-3)

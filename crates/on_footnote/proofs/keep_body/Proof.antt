@@ -7,18 +7,6 @@ use Rattle.on_footnote.proofs.keep_body.Tie as tie
 returns : tie.Need-returns
 returns c = no-body (c .if1 .taken)
 
-keep-footnote-requires : tie.Need-keep-footnote-requires
-keep-footnote-requires c κs = search needs
-
-drop-requires : tie.Need-drop-requires
-drop-requires c κs = search needs
-
-same-length : tie.Need-same-length
-same-length c = search needs
-
-same-length-2 : tie.Need-same-length-2
-same-length-2 c = search needs
-
 returns-2 : tie.Need-returns-2
 returns-2 c =
     let c1 = c .before .before .before .before .before in
@@ -27,4 +15,4 @@ returns-2 c =
 pub keep-body-spec : {M : Type 1} → statement M
 keep-body-spec =
     tie.close
-    (tie.spec returns keep-footnote-requires drop-requires same-length same-length-2 returns-2)
+    (tie.spec returns (λ c κs. search needs) (λ c κs. search needs) (λ c. search needs) (λ c. search needs) returns-2)

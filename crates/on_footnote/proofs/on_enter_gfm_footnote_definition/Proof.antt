@@ -4,12 +4,9 @@ use Rattle.on_footnote.proofs.on_enter_gfm_footnote_definition.Statemen
 use Rattle.on_footnote.proofs.on_enter_gfm_footnote_definition.Tie as tie
 use Rattle.machine.specs.OnFootnote.{onEnterGfmFootnoteDefinition}
 
-open-container-requires : tie.Need-open-container-requires
-open-container-requires c κs = search needs
-
 returns : tie.Need-returns
 unfolding onEnterGfmFootnoteDefinition
 returns c = c .open-container .ensures
 
 pub on-enter-gfm-footnote-definition-spec : {M : Type 1} → statement M
-on-enter-gfm-footnote-definition-spec = tie.close (tie.spec open-container-requires returns)
+on-enter-gfm-footnote-definition-spec = tie.close (tie.spec (λ c κs. search needs) returns)

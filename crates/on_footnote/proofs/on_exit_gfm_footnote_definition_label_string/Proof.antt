@@ -7,16 +7,10 @@ use Rattle.on_footnote.proofs.on_exit_gfm_footnote_definition_label_str
 }
 use Rattle.on_footnote.proofs.on_exit_gfm_footnote_definition_label_string.Tie as tie
 
-open-label-requires : tie.Need-open-label-requires
-open-label-requires c κs = search needs
-
-same-length : tie.Need-same-length
-same-length c = search needs
-
 returns : tie.Need-returns
 unfolding onExitGfmFootnoteDefinitionLabelString
 returns c = search opens-label
 
 pub on-exit-gfm-footnote-definition-label-string-spec : {M : Type 1} → statement M
 on-exit-gfm-footnote-definition-label-string-spec =
-    tie.close (tie.spec open-label-requires same-length returns)
+    tie.close (tie.spec (λ c κs. search needs) (λ c. search needs) returns)

@@ -10,11 +10,8 @@ returns c = search rank-back
 returns-2 : tie.Need-returns-2
 returns-2 c = search rank-out
 
-with-rank-requires : tie.Need-with-rank-requires
-with-rank-requires c κs = search needs
-
 returns-3 : tie.Need-returns-3
 returns-3 c = search keeps-rank
 
 pub keep-rank-spec : {M : Type 1} → statement M
-keep-rank-spec = tie.close (tie.spec returns returns-2 with-rank-requires returns-3)
+keep-rank-spec = tie.close (tie.spec returns returns-2 (λ c κs. search needs) returns-3)

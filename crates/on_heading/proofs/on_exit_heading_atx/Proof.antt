@@ -6,24 +6,6 @@ use native.Mathlib.Omega.{arith}
 use Rattle.machine.specs.OnHeading.{onExitHeadingAtx}
 use Rattle.state_context.proofs.Commands.{seq, puts, sets}
 
-slice-aggregate-push : tie.Need-slice-aggregate-push
-slice-aggregate-push c = search needs
-
-push-requires : tie.Need-push-requires
-push-requires c κs = search needs
-
-push-rank-requires : tie.Need-push-rank-requires
-push-rank-requires c κs = search needs
-
-slice-aggregate-push-2 : tie.Need-slice-aggregate-push-2
-slice-aggregate-push-2 c = search needs
-
-push-requires-2 : tie.Need-push-requires-2
-push-requires-2 c κs = search needs
-
-forget-rank-requires : tie.Need-forget-rank-requires
-forget-rank-requires c κs = search needs
-
 same-length : tie.Need-same-length
 same-length c =
     let c3 = c .before .before .before .before .before in
@@ -51,12 +33,12 @@ pub on-exit-heading-atx-spec : {M : Type 1} → statement M
 on-exit-heading-atx-spec =
     tie.close
     (tie.spec
-    slice-aggregate-push
-    push-requires
-    push-rank-requires
-    slice-aggregate-push-2
-    push-requires-2
-    forget-rank-requires
+    (λ c. search needs)
+    (λ c κs. search needs)
+    (λ c κs. search needs)
+    (λ c. search needs)
+    (λ c κs. search needs)
+    (λ c κs. search needs)
     same-length
     same-length-2
     returns)

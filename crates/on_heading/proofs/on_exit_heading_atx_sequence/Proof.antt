@@ -6,35 +6,11 @@ use native.Mathlib.Omega.{arith}
 use Rattle.machine.specs.OnHeading.{onExitHeadingAtxSequence}
 use Rattle.state_context.proofs.Commands.{any, idle, seq, puts, told, whether-yes, whether-no}
 
-has-rank-requires : tie.Need-has-rank-requires
-has-rank-requires c κs = search needs
-
 returns : tie.Need-returns
 unfolding onExitHeadingAtxSequence
 returns c =
     let c1 = c .before in
     whether-yes (told (c1 .has-rank .ensures)) (search needs) idle
-
-line-ending-if-needed-requires : tie.Need-line-ending-if-needed-requires
-line-ending-if-needed-requires c κs = search needs
-
-keep-rank-requires : tie.Need-keep-rank-requires
-keep-rank-requires c κs = search needs
-
-slice-aggregate-push : tie.Need-slice-aggregate-push
-slice-aggregate-push c = search needs
-
-push-requires : tie.Need-push-requires
-push-requires c κs = search needs
-
-push-rank-requires : tie.Need-push-rank-requires
-push-rank-requires c κs = search needs
-
-slice-aggregate-push-2 : tie.Need-slice-aggregate-push-2
-slice-aggregate-push-2 c = search needs
-
-push-requires-2 : tie.Need-push-requires-2
-push-requires-2 c κs = search needs
 
 same-length : tie.Need-same-length
 same-length c =
@@ -68,15 +44,15 @@ pub on-exit-heading-atx-sequence-spec : {M : Type 1} → statement M
 on-exit-heading-atx-sequence-spec =
     tie.close
     (tie.spec
-    has-rank-requires
+    (λ c κs. search needs)
     returns
-    line-ending-if-needed-requires
-    keep-rank-requires
-    slice-aggregate-push
-    push-requires
-    push-rank-requires
-    slice-aggregate-push-2
-    push-requires-2
+    (λ c κs. search needs)
+    (λ c κs. search needs)
+    (λ c. search needs)
+    (λ c κs. search needs)
+    (λ c κs. search needs)
+    (λ c. search needs)
+    (λ c κs. search needs)
     same-length
     same-length-2
     returns-2)

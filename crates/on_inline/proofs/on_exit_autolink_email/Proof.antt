@@ -5,18 +5,6 @@ use Rattle.on_inline.proofs.on_exit_autolink_email.Tie as tie
 use Rattle.machine.specs.OnInline.{generateAutolink, onExitAutolinkEmail}
 use Rattle.state_context.proofs.Commands.{seq}
 
-begin-email-requires : tie.Need-begin-email-requires
-begin-email-requires c κs = search needs
-
-end-autolink-requires : tie.Need-end-autolink-requires
-end-autolink-requires c κs = search needs
-
-same-length : tie.Need-same-length
-same-length c = search needs
-
-same-length-2 : tie.Need-same-length-2
-same-length-2 c = search needs
-
 returns : tie.Need-returns
 unfolding onExitAutolinkEmail generateAutolink
 returns c =
@@ -27,4 +15,4 @@ returns c =
 pub on-exit-autolink-email-spec : {M : Type 1} → statement M
 on-exit-autolink-email-spec =
     tie.close
-    (tie.spec begin-email-requires end-autolink-requires same-length same-length-2 returns)
+    (tie.spec (λ c κs. search needs) (λ c κs. search needs) (λ c. search needs) (λ c. search needs) returns)

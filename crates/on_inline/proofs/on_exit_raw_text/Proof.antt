@@ -6,24 +6,6 @@ use Rattle.machine.specs.OnInline.{onExitRawText}
 use Rattle.state_context.proofs.Commands.{seq, sets, tag-of}
 use Rattle.state_context.proofs.Slices.{takes-seq}
 
-resume-code-requires : tie.Need-resume-code-requires
-resume-code-requires c κs = search needs
-
-set-raw-requires : tie.Need-set-raw-requires
-set-raw-requires c κs = search needs
-
-slice-aggregate-push-tag : tie.Need-slice-aggregate-push-tag
-slice-aggregate-push-tag c = search needs
-
-push-tag-requires : tie.Need-push-tag-requires
-push-tag-requires c κs = search needs
-
-same-length : tie.Need-same-length
-same-length c = search needs
-
-same-length-2 : tie.Need-same-length-2
-same-length-2 c = search needs
-
 returns : tie.Need-returns
 unfolding onExitRawText
 returns c =
@@ -36,10 +18,10 @@ pub on-exit-raw-text-spec : {M : Type 1} → statement M
 on-exit-raw-text-spec =
     tie.close
     (tie.spec
-    resume-code-requires
-    set-raw-requires
-    slice-aggregate-push-tag
-    push-tag-requires
-    same-length
-    same-length-2
+    (λ c κs. search needs)
+    (λ c κs. search needs)
+    (λ c. search needs)
+    (λ c κs. search needs)
+    (λ c. search needs)
+    (λ c. search needs)
     returns)

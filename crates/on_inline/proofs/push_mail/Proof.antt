@@ -10,21 +10,6 @@ returns c = search mail-back
 returns-2 : tie.Need-returns-2
 returns-2 c = search mail-out
 
-part-push-mail-start : tie.Need-part-push-mail-start
-part-push-mail-start c = search needs
-
-part-push-mail-end : tie.Need-part-push-mail-end
-part-push-mail-end c = search needs
-
-push-mail-requires : tie.Need-push-mail-requires
-push-mail-requires c κs = search needs
-
-same-length : tie.Need-same-length
-same-length c = search needs
-
-same-length-2 : tie.Need-same-length-2
-same-length-2 c = search needs
-
 returns-3 : tie.Need-returns-3
 returns-3 c = search mails
 
@@ -34,9 +19,9 @@ push-mail-spec =
     (tie.spec
     returns
     returns-2
-    part-push-mail-start
-    part-push-mail-end
-    push-mail-requires
-    same-length
-    same-length-2
+    (λ c. search needs)
+    (λ c. search needs)
+    (λ c κs. search needs)
+    (λ c. search needs)
+    (λ c. search needs)
     returns-3)

@@ -6,14 +6,8 @@ use mathlib.Core.Path.{refl}
 use Rattle.on_link.proofs.Lifted.{lifts-ends, identified}
 use Rattle.on_link.proofs.Chains.{then-from-starts}
 
-drop-requires : tie.Need-drop-requires
-drop-requires c κs = search needs
-
-identify-reference-requires : tie.Need-identify-reference-requires
-identify-reference-requires c κs = search needs
-
 returns : tie.Need-returns
 returns c = then-from-starts (lifts-ends refl (c .before .drop .ensures)) (identified (c .identify-reference .ensures))
 
 pub identify-reference-spec : {M : Type 1} → statement M
-identify-reference-spec = tie.close (tie.spec drop-requires identify-reference-requires returns)
+identify-reference-spec = tie.close (tie.spec (λ c κs. search needs) (λ c κs. search needs) returns)

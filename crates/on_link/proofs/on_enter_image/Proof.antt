@@ -8,15 +8,9 @@ use Rattle.state_whole.proofs.Media.{opens-media}
 use Rattle.on_link.proofs.Lifted.{lifts-sets}
 use Rattle.on_link.proofs.Chains.{then-unlent}
 
-open-media-requires : tie.Need-open-media-requires
-open-media-requires c κs = search needs
-
-set-alt-requires : tie.Need-set-alt-requires
-set-alt-requires c κs = search needs
-
 returns : tie.Need-returns
 unfolding onEnterImage
 returns c = then-unlent (opens-media (c .before .open-media .ensures)) (lifts-sets refl (c .set-alt .ensures))
 
 pub on-enter-image-spec : {M : Type 1} → statement M
-on-enter-image-spec = tie.close (tie.spec open-media-requires set-alt-requires returns)
+on-enter-image-spec = tie.close (tie.spec (λ c κs. search needs) (λ c κs. search needs) returns)

@@ -9,15 +9,6 @@ use Rattle.state_whole.proofs.Media.{empties}
 use Rattle.on_link.proofs.Lifted.{lifts-begins}
 use Rattle.on_link.proofs.Chains.{then-on-starts}
 
-open-requires : tie.Need-open-requires
-open-requires c κs = search needs
-
-empty-destination-requires : tie.Need-empty-destination-requires
-empty-destination-requires c κs = search needs
-
-same-length : tie.Need-same-length
-same-length c = search needs
-
 returns : tie.Need-returns
 unfolding onEnterResource
 returns c =
@@ -26,4 +17,4 @@ returns c =
 
 pub on-enter-resource-spec : {M : Type 1} → statement M
 on-enter-resource-spec =
-    tie.close (tie.spec open-requires empty-destination-requires same-length returns)
+    tie.close (tie.spec (λ c κs. search needs) (λ c κs. search needs) (λ c. search needs) returns)

@@ -6,18 +6,6 @@ use native.Mathlib.Omega.{arith}
 use Rattle.machine.specs.OnLink.{onExitLabel}
 use Rattle.state_whole.proofs.Media.{stores}
 
-captured-length-requires : tie.Need-captured-length-requires
-captured-length-requires c κs = search needs
-
-store-label-requires : tie.Need-store-label-requires
-store-label-requires c κs = search needs
-
-drop-requires : tie.Need-drop-requires
-drop-requires c κs = search needs
-
-same-length : tie.Need-same-length
-same-length c = search needs
-
 returns : tie.Need-returns
 unfolding onExitLabel
 returns c =
@@ -29,4 +17,4 @@ returns c =
 pub on-exit-label-spec : {M : Type 1} → statement M
 on-exit-label-spec =
     tie.close
-    (tie.spec captured-length-requires store-label-requires drop-requires same-length returns)
+    (tie.spec (λ c κs. search needs) (λ c κs. search needs) (λ c κs. search needs) (λ c. search needs) returns)

@@ -8,21 +8,6 @@ use Rattle.state_whole.proofs.Media.{stores}
 use Rattle.on_link.proofs.Lifted.{lifts-sets}
 use Rattle.on_link.proofs.Chains.{then-on-work}
 
-captured-length-requires : tie.Need-captured-length-requires
-captured-length-requires c κs = search needs
-
-store-destination-requires : tie.Need-store-destination-requires
-store-destination-requires c κs = search needs
-
-drop-requires : tie.Need-drop-requires
-drop-requires c κs = search needs
-
-set-encode-requires : tie.Need-set-encode-requires
-set-encode-requires c κs = search needs
-
-same-length : tie.Need-same-length
-same-length c = search needs
-
 returns : tie.Need-returns
 returns c =
     let c2 = c .before .before .before .before in
@@ -34,9 +19,9 @@ pub store-destination-spec : {M : Type 1} → statement M
 store-destination-spec =
     tie.close
     (tie.spec
-    captured-length-requires
-    store-destination-requires
-    drop-requires
-    set-encode-requires
-    same-length
+    (λ c κs. search needs)
+    (λ c κs. search needs)
+    (λ c κs. search needs)
+    (λ c κs. search needs)
+    (λ c. search needs)
     returns)

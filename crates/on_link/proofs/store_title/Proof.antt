@@ -5,18 +5,6 @@ use Rattle.on_link.proofs.store_title.Tie as tie
 use native.Mathlib.Omega.{arith}
 use Rattle.state_whole.proofs.Media.{stores}
 
-captured-length-requires : tie.Need-captured-length-requires
-captured-length-requires c κs = search needs
-
-store-title-requires : tie.Need-store-title-requires
-store-title-requires c κs = search needs
-
-drop-requires : tie.Need-drop-requires
-drop-requires c κs = search needs
-
-same-length : tie.Need-same-length
-same-length c = search needs
-
 returns : tie.Need-returns
 returns c =
     let c2 = c .before .before .before in
@@ -27,4 +15,4 @@ returns c =
 pub store-title-spec : {M : Type 1} → statement M
 store-title-spec =
     tie.close
-    (tie.spec captured-length-requires store-title-requires drop-requires same-length returns)
+    (tie.spec (λ c κs. search needs) (λ c κs. search needs) (λ c κs. search needs) (λ c. search needs) returns)

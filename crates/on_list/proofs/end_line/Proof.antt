@@ -6,9 +6,6 @@ use borrow.Author.Tests.{eq-eqb, ne-eqb}
 use Rattle.state_context.proofs.Commands.{any, idle, whether-yes, whether-no}
 use Rattle.on_list.proofs.Laws.{tells-empty}
 
-is-tight-paragraph-requires : tie.Need-is-tight-paragraph-requires
-is-tight-paragraph-requires c κs = search needs
-
 returns : tie.Need-returns
 returns c =
     let c1 = c .before in
@@ -18,15 +15,6 @@ returns-2 : tie.Need-returns-2
 returns-2 c =
     let c1 = c .before .before in
     whether-no (c1 .is-tight-paragraph .ensures) (search needs) (whether-yes tells-empty (search (eq-eqb, needs)) idle)
-
-line-ending-if-needed-requires : tie.Need-line-ending-if-needed-requires
-line-ending-if-needed-requires c κs = search needs
-
-same-length : tie.Need-same-length
-same-length c = search needs
-
-same-length-2 : tie.Need-same-length-2
-same-length-2 c = search needs
 
 returns-3 : tie.Need-returns-3
 returns-3 c =
@@ -38,10 +26,10 @@ pub end-line-spec : {M : Type 1} → statement M
 end-line-spec =
     tie.close
     (tie.spec
-    is-tight-paragraph-requires
+    (λ c κs. search needs)
     returns
     returns-2
-    line-ending-if-needed-requires
-    same-length
-    same-length-2
+    (λ c κs. search needs)
+    (λ c. search needs)
+    (λ c. search needs)
     returns-3)

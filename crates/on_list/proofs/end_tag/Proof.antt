@@ -4,21 +4,6 @@ use Rattle.on_list.proofs.end_tag.Statement.{statement}
 use Rattle.on_list.proofs.end_tag.Tie as tie
 use Rattle.state_context.proofs.Commands.{idle, puts, whether-yes, whether-no}
 
-is-first-marker-requires : tie.Need-is-first-marker-requires
-is-first-marker-requires c κs = search needs
-
-slice-aggregate-push : tie.Need-slice-aggregate-push
-slice-aggregate-push c = search needs
-
-push-requires : tie.Need-push-requires
-push-requires c κs = search needs
-
-same-length : tie.Need-same-length
-same-length c = search needs
-
-same-length-2 : tie.Need-same-length-2
-same-length-2 c = search needs
-
 returns : tie.Need-returns
 returns c =
     let c2 = c .before .before .before .before in
@@ -34,10 +19,10 @@ pub end-tag-spec : {M : Type 1} → statement M
 end-tag-spec =
     tie.close
     (tie.spec
-    is-first-marker-requires
-    slice-aggregate-push
-    push-requires
-    same-length
-    same-length-2
+    (λ c κs. search needs)
+    (λ c. search needs)
+    (λ c κs. search needs)
+    (λ c. search needs)
+    (λ c. search needs)
     returns
     returns-2)

@@ -4,11 +4,8 @@ use Rattle.on_list.proofs.is_tight_paragraph.Statement.{statement}
 use Rattle.on_list.proofs.is_tight_paragraph.Tie as tie
 use Rattle.on_list.proofs.Laws.{tells-tight}
 
-is-tight-requires : tie.Need-is-tight-requires
-is-tight-requires c κs = search needs
-
 returns : tie.Need-returns
 returns c = tells-tight (c .is-tight .ensures)
 
 pub is-tight-paragraph-spec : {M : Type 1} → statement M
-is-tight-paragraph-spec = tie.close (tie.spec is-tight-requires returns)
+is-tight-paragraph-spec = tie.close (tie.spec (λ c κs. search needs) returns)

@@ -7,24 +7,6 @@ use Rattle.machine.specs.OnList.{onEnterList}
 use Rattle.state_context.proofs.Commands.{any, narrow, seq, sets}
 use Rattle.on_list.proofs.Laws.{opens-container, by-order}
 
-open-container-requires : tie.Need-open-container-requires
-open-container-requires c κs = search needs
-
-line-ending-if-needed-requires : tie.Need-line-ending-if-needed-requires
-line-ending-if-needed-requires c κs = search needs
-
-slice-aggregate-push-by-order : tie.Need-slice-aggregate-push-by-order
-slice-aggregate-push-by-order c = search needs
-
-slice-aggregate-push-by-order-2 : tie.Need-slice-aggregate-push-by-order-2
-slice-aggregate-push-by-order-2 c = search needs
-
-push-by-order-requires : tie.Need-push-by-order-requires
-push-by-order-requires c κs = search needs
-
-set-first-requires : tie.Need-set-first-requires
-set-first-requires c κs = search needs
-
 same-length : tie.Need-same-length
 same-length c =
     let c3 = c .before .before .before .before .before in
@@ -50,12 +32,12 @@ pub on-enter-list-spec : {M : Type 1} → statement M
 on-enter-list-spec =
     tie.close
     (tie.spec
-    open-container-requires
-    line-ending-if-needed-requires
-    slice-aggregate-push-by-order
-    slice-aggregate-push-by-order-2
-    push-by-order-requires
-    set-first-requires
+    (λ c κs. search needs)
+    (λ c κs. search needs)
+    (λ c. search needs)
+    (λ c. search needs)
+    (λ c κs. search needs)
+    (λ c κs. search needs)
     same-length
     same-length-2
     returns)

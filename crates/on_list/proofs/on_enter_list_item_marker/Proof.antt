@@ -6,21 +6,6 @@ use native.Mathlib.Omega.{arith}
 use Rattle.machine.specs.OnList.{onEnterListItemMarker}
 use Rattle.state_context.proofs.Commands.{seq, sets, puts}
 
-end-tag-requires : tie.Need-end-tag-requires
-end-tag-requires c κs = search needs
-
-line-ending-if-needed-requires : tie.Need-line-ending-if-needed-requires
-line-ending-if-needed-requires c κs = search needs
-
-slice-aggregate-push : tie.Need-slice-aggregate-push
-slice-aggregate-push c = search needs
-
-push-requires : tie.Need-push-requires
-push-requires c κs = search needs
-
-set-first-requires : tie.Need-set-first-requires
-set-first-requires c κs = search needs
-
 same-length : tie.Need-same-length
 same-length c =
     let c4 = c in
@@ -50,11 +35,11 @@ pub on-enter-list-item-marker-spec : {M : Type 1} → statement M
 on-enter-list-item-marker-spec =
     tie.close
     (tie.spec
-    end-tag-requires
-    line-ending-if-needed-requires
-    slice-aggregate-push
-    push-requires
-    set-first-requires
+    (λ c κs. search needs)
+    (λ c κs. search needs)
+    (λ c. search needs)
+    (λ c κs. search needs)
+    (λ c κs. search needs)
     same-length
     same-length-2
     returns)

@@ -5,18 +5,6 @@ use Rattle.on_list.proofs.on_exit_list_item_value.Tie as tie
 use Rattle.machine.specs.OnList.{onExitListItemValue}
 use Rattle.state_context.proofs.Commands.{idle, told, whether-yes, whether-no}
 
-is-first-marker-requires : tie.Need-is-first-marker-requires
-is-first-marker-requires c κs = search needs
-
-push-start-requires : tie.Need-push-start-requires
-push-start-requires c κs = search needs
-
-same-length : tie.Need-same-length
-same-length c = search needs
-
-same-length-2 : tie.Need-same-length-2
-same-length-2 c = search needs
-
 returns : tie.Need-returns
 unfolding onExitListItemValue
 returns c =
@@ -34,9 +22,9 @@ pub on-exit-list-item-value-spec : {M : Type 1} → statement M
 on-exit-list-item-value-spec =
     tie.close
     (tie.spec
-    is-first-marker-requires
-    push-start-requires
-    same-length
-    same-length-2
+    (λ c κs. search needs)
+    (λ c κs. search needs)
+    (λ c. search needs)
+    (λ c. search needs)
     returns
     returns-2)

@@ -10,21 +10,6 @@ returns c = search start-back
 returns-2 : tie.Need-returns-2
 returns-2 c = search start-out
 
-part-push-start-start : tie.Need-part-push-start-start
-part-push-start-start c = search needs
-
-part-push-start-end : tie.Need-part-push-start-end
-part-push-start-end c = search needs
-
-push-start-requires : tie.Need-push-start-requires
-push-start-requires c κs = search needs
-
-same-length : tie.Need-same-length
-same-length c = search needs
-
-same-length-2 : tie.Need-same-length-2
-same-length-2 c = search needs
-
 returns-3 : tie.Need-returns-3
 returns-3 c = search starts
 
@@ -34,9 +19,9 @@ push-start-spec =
     (tie.spec
     returns
     returns-2
-    part-push-start-start
-    part-push-start-end
-    push-start-requires
-    same-length
-    same-length-2
+    (λ c. search needs)
+    (λ c. search needs)
+    (λ c κs. search needs)
+    (λ c. search needs)
+    (λ c. search needs)
     returns-3)

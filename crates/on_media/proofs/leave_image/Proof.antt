@@ -4,14 +4,8 @@ use Rattle.on_media.proofs.leave_image.Statement.{statement}
 use Rattle.on_media.proofs.leave_image.Tie as tie
 use Rattle.on_media.proofs.Tests.{leaves-image}
 
-in-image-requires : tie.Need-in-image-requires
-in-image-requires c κs = search needs
-
-set-alt-requires : tie.Need-set-alt-requires
-set-alt-requires c κs = search needs
-
 returns : tie.Need-returns
 returns c = leaves-image (c .before .in-image .ensures) (c .set-alt .ensures)
 
 pub leave-image-spec : {M : Type 1} → statement M
-leave-image-spec = tie.close (tie.spec in-image-requires set-alt-requires returns)
+leave-image-spec = tie.close (tie.spec (λ c κs. search needs) (λ c κs. search needs) returns)

@@ -7,27 +7,6 @@ use mathlib.Core.Path.{refl}
 use Rattle.machine.specs.OnMedia.{onExitMedia}
 use Rattle.on_media.proofs.Exits.{exits}
 
-leave-image-requires : tie.Need-leave-image-requires
-leave-image-requires c κs = search needs
-
-seek-definition-requires : tie.Need-seek-definition-requires
-seek-definition-requires c κs = search needs
-
-push-start-requires : tie.Need-push-start-requires
-push-start-requires c κs = search needs
-
-push-label-requires : tie.Need-push-label-requires
-push-label-requires c κs = search needs
-
-push-end-requires : tie.Need-push-end-requires
-push-end-requires c κs = search needs
-
-push-text-requires : tie.Need-push-text-requires
-push-text-requires c κs = search needs
-
-close-media-requires : tie.Need-close-media-requires
-close-media-requires c κs = search needs
-
 same-length : tie.Need-same-length
 same-length c =
     let c6 = c .before .before .before .before .before in
@@ -57,13 +36,13 @@ pub on-exit-media-spec : {M : Type 1} → statement M
 on-exit-media-spec =
     tie.close
     (tie.spec
-    leave-image-requires
-    seek-definition-requires
-    push-start-requires
-    push-label-requires
-    push-end-requires
-    push-text-requires
-    close-media-requires
+    (λ c κs. search needs)
+    (λ c κs. search needs)
+    (λ c κs. search needs)
+    (λ c κs. search needs)
+    (λ c κs. search needs)
+    (λ c κs. search needs)
+    (λ c κs. search needs)
     same-length
     same-length-2
     returns)

@@ -14,29 +14,8 @@ use Rattle.machine.specs.Test.{isImage}
 use Rattle.machine.specs.Media.{title}
 use Rattle.machine.specs.Words.{when, put, show}
 
-is-alt-requires : tie.Need-is-alt-requires
-is-alt-requires c κs = search needs
-
 returns : tie.Need-returns
 returns c = shown-skipped (alt-known (c .before .is-alt .ensures)) (search needs)
-
-slice-aggregate-write-text : tie.Need-slice-aggregate-write-text
-slice-aggregate-write-text c = search needs
-
-write-text-requires : tie.Need-write-text-requires
-write-text-requires c κs = search needs
-
-show-title-requires : tie.Need-show-title-requires
-show-title-requires c κs = search needs
-
-put-slash-requires : tie.Need-put-slash-requires
-put-slash-requires c κs = search needs
-
-slice-aggregate-write-text-2 : tie.Need-slice-aggregate-write-text-2
-slice-aggregate-write-text-2 c = search needs
-
-write-text-requires-2 : tie.Need-write-text-requires-2
-write-text-requires-2 c κs = search needs
 
 same-length : tie.Need-same-length
 same-length c =
@@ -70,14 +49,14 @@ pub push-end-spec : {M : Type 1} → statement M
 push-end-spec =
     tie.close
     (tie.spec
-    is-alt-requires
+    (λ c κs. search needs)
     returns
-    slice-aggregate-write-text
-    write-text-requires
-    show-title-requires
-    put-slash-requires
-    slice-aggregate-write-text-2
-    write-text-requires-2
+    (λ c. search needs)
+    (λ c κs. search needs)
+    (λ c κs. search needs)
+    (λ c κs. search needs)
+    (λ c. search needs)
+    (λ c κs. search needs)
     same-length
     same-length-2
     returns-2)

@@ -4,18 +4,6 @@ use Rattle.on_media.proofs.push_label.Statement.{statement}
 use Rattle.on_media.proofs.push_label.Tie as tie
 use Rattle.on_media.proofs.Tests.{image-known, page-yes, page-no, page-idle}
 
-is-image-requires : tie.Need-is-image-requires
-is-image-requires c κs = search needs
-
-show-label-requires : tie.Need-show-label-requires
-show-label-requires c κs = search needs
-
-same-length : tie.Need-same-length
-same-length c = search needs
-
-same-length-2 : tie.Need-same-length-2
-same-length-2 c = search needs
-
 returns : tie.Need-returns
 returns c =
     let c2 = c .before .before .before .before in
@@ -30,4 +18,4 @@ returns-2 c =
 pub push-label-spec : {M : Type 1} → statement M
 push-label-spec =
     tie.close
-    (tie.spec is-image-requires show-label-requires same-length same-length-2 returns returns-2)
+    (tie.spec (λ c κs. search needs) (λ c κs. search needs) (λ c. search needs) (λ c. search needs) returns returns-2)

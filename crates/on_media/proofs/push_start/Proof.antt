@@ -12,20 +12,8 @@ use Rattle.machine.specs.Media.{destination}
 use Rattle.machine.specs.Command.{whether}
 use Rattle.machine.specs.Words.{put, show}
 
-is-alt-requires : tie.Need-is-alt-requires
-is-alt-requires c κs = search needs
-
 returns : tie.Need-returns
 returns c = shown-skipped (alt-known (c .before .is-alt .ensures)) (search needs)
-
-put-name-requires : tie.Need-put-name-requires
-put-name-requires c κs = search needs
-
-show-destination-requires : tie.Need-show-destination-requires
-show-destination-requires c κs = search needs
-
-put-alt-requires : tie.Need-put-alt-requires
-put-alt-requires c κs = search needs
 
 same-length : tie.Need-same-length
 same-length c =
@@ -54,11 +42,11 @@ pub push-start-spec : {M : Type 1} → statement M
 push-start-spec =
     tie.close
     (tie.spec
-    is-alt-requires
+    (λ c κs. search needs)
     returns
-    put-name-requires
-    show-destination-requires
-    put-alt-requires
+    (λ c κs. search needs)
+    (λ c κs. search needs)
+    (λ c κs. search needs)
     same-length
     same-length-2
     returns-2)

@@ -5,25 +5,10 @@ use Rattle.on_media.proofs.push_text.Tie as tie
 use Rattle.on_media.proofs.Tests.{image-known, page-yes, page-no, page-idle}
 use Rattle.write_held.proofs.Pages.{then-on-page}
 
-is-image-requires : tie.Need-is-image-requires
-is-image-requires c κs = search needs
-
 returns : tie.Need-returns
 returns c =
     let c1 = c .before in
     page-yes (image-known (c1 .is-image .ensures)) (search needs) page-idle
-
-show-label-requires : tie.Need-show-label-requires
-show-label-requires c κs = search needs
-
-put-end-tag-requires : tie.Need-put-end-tag-requires
-put-end-tag-requires c κs = search needs
-
-same-length : tie.Need-same-length
-same-length c = search needs
-
-same-length-2 : tie.Need-same-length-2
-same-length-2 c = search needs
 
 returns-2 : tie.Need-returns-2
 returns-2 c =
@@ -36,10 +21,10 @@ pub push-text-spec : {M : Type 1} → statement M
 push-text-spec =
     tie.close
     (tie.spec
-    is-image-requires
+    (λ c κs. search needs)
     returns
-    show-label-requires
-    put-end-tag-requires
-    same-length
-    same-length-2
+    (λ c κs. search needs)
+    (λ c κs. search needs)
+    (λ c. search needs)
+    (λ c. search needs)
     returns-2)

@@ -5,21 +5,6 @@ use Rattle.on_media.proofs.put_alt.Tie as tie
 use Rattle.on_media.proofs.Tests.{image-known, page-yes, page-no, page-idle}
 use Rattle.on_media.proofs.Writes.{puts-page}
 
-is-image-requires : tie.Need-is-image-requires
-is-image-requires c κs = search needs
-
-slice-aggregate-write-text : tie.Need-slice-aggregate-write-text
-slice-aggregate-write-text c = search needs
-
-write-text-requires : tie.Need-write-text-requires
-write-text-requires c κs = search needs
-
-same-length : tie.Need-same-length
-same-length c = search needs
-
-same-length-2 : tie.Need-same-length-2
-same-length-2 c = search needs
-
 returns : tie.Need-returns
 returns c =
     let c2 = c .before .before .before .before in
@@ -35,10 +20,10 @@ pub put-alt-spec : {M : Type 1} → statement M
 put-alt-spec =
     tie.close
     (tie.spec
-    is-image-requires
-    slice-aggregate-write-text
-    write-text-requires
-    same-length
-    same-length-2
+    (λ c κs. search needs)
+    (λ c. search needs)
+    (λ c κs. search needs)
+    (λ c. search needs)
+    (λ c. search needs)
     returns
     returns-2)

@@ -5,23 +5,8 @@ use Rattle.on_media.proofs.put_end_tag.Tie as tie
 use Rattle.on_media.proofs.Tests.{alt-known, page-yes, page-no, page-idle}
 use Rattle.on_media.proofs.Writes.{puts-page}
 
-is-alt-requires : tie.Need-is-alt-requires
-is-alt-requires c κs = search needs
-
 returns : tie.Need-returns
 returns c = page-yes (alt-known (c .before .is-alt .ensures)) (search needs) page-idle
-
-slice-aggregate-write-text : tie.Need-slice-aggregate-write-text
-slice-aggregate-write-text c = search needs
-
-write-text-requires : tie.Need-write-text-requires
-write-text-requires c κs = search needs
-
-same-length : tie.Need-same-length
-same-length c = search needs
-
-same-length-2 : tie.Need-same-length-2
-same-length-2 c = search needs
 
 returns-2 : tie.Need-returns-2
 returns-2 c =
@@ -32,10 +17,10 @@ pub put-end-tag-spec : {M : Type 1} → statement M
 put-end-tag-spec =
     tie.close
     (tie.spec
-    is-alt-requires
+    (λ c κs. search needs)
     returns
-    slice-aggregate-write-text
-    write-text-requires
-    same-length
-    same-length-2
+    (λ c. search needs)
+    (λ c κs. search needs)
+    (λ c. search needs)
+    (λ c. search needs)
     returns-2)

@@ -5,38 +5,11 @@ use Rattle.on_media.proofs.put_name.Tie as tie
 use Rattle.on_media.proofs.Tests.{image-known, page-yes, page-no}
 use Rattle.on_media.proofs.Writes.{puts-page}
 
-is-image-requires : tie.Need-is-image-requires
-is-image-requires c κs = search needs
-
-slice-aggregate-write-text : tie.Need-slice-aggregate-write-text
-slice-aggregate-write-text c = search needs
-
-write-text-requires : tie.Need-write-text-requires
-write-text-requires c κs = search needs
-
-same-length : tie.Need-same-length
-same-length c = search needs
-
-same-length-2 : tie.Need-same-length-2
-same-length-2 c = search needs
-
 returns : tie.Need-returns
 returns c =
     let c2 = c .before .before .before .before in
     let c1 = c2 .before .before .before .before .before in
     page-yes (image-known (c1 .is-image .ensures)) (search needs) (puts-page (c2 .write-text .ensures))
-
-slice-aggregate-write-text-2 : tie.Need-slice-aggregate-write-text-2
-slice-aggregate-write-text-2 c = search needs
-
-write-text-requires-2 : tie.Need-write-text-requires-2
-write-text-requires-2 c κs = search needs
-
-same-length-3 : tie.Need-same-length-3
-same-length-3 c = search needs
-
-same-length-4 : tie.Need-same-length-4
-same-length-4 c = search needs
 
 returns-2 : tie.Need-returns-2
 returns-2 c =
@@ -48,14 +21,14 @@ pub put-name-spec : {M : Type 1} → statement M
 put-name-spec =
     tie.close
     (tie.spec
-    is-image-requires
-    slice-aggregate-write-text
-    write-text-requires
-    same-length
-    same-length-2
+    (λ c κs. search needs)
+    (λ c. search needs)
+    (λ c κs. search needs)
+    (λ c. search needs)
+    (λ c. search needs)
     returns
-    slice-aggregate-write-text-2
-    write-text-requires-2
-    same-length-3
-    same-length-4
+    (λ c. search needs)
+    (λ c κs. search needs)
+    (λ c. search needs)
+    (λ c. search needs)
     returns-2)

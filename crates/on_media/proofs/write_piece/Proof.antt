@@ -5,19 +5,10 @@ use Rattle.on_media.proofs.write_piece.Tie as tie
 use native.Mathlib.Omega.{arith}
 use Rattle.on_media.proofs.Writes.{writes-piece}
 
-push-piece-requires : tie.Need-push-piece-requires
-push-piece-requires c κs = search needs
-
-same-length : tie.Need-same-length
-same-length c = search needs
-
-same-length-2 : tie.Need-same-length-2
-same-length-2 c = search needs
-
 returns : tie.Need-returns
 returns c =
     let c1 = c .before .before .before .before in
     writes-piece (c1 .push-piece .ensures) (omega (arith, c1 .push-piece .kept))
 
 pub write-piece-spec : {M : Type 1} → statement M
-write-piece-spec = tie.close (tie.spec push-piece-requires same-length same-length-2 returns)
+write-piece-spec = tie.close (tie.spec (λ c κs. search needs) (λ c. search needs) (λ c. search needs) returns)

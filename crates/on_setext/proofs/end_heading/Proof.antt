@@ -10,24 +10,6 @@ use Rattle.machine.specs.OnSetext.{setextRank}
 returns : tie.Need-returns
 returns c = too-short (search needs)
 
-sub-push-end : tie.Need-sub-push-end
-sub-push-end c = search needs
-
-part-push-end-start : tie.Need-part-push-end-start
-part-push-end-start c = search needs
-
-part-push-end-end : tie.Need-part-push-end-end
-part-push-end-end c = search needs
-
-push-end-requires : tie.Need-push-end-requires
-push-end-requires c κs = search needs
-
-same-length : tie.Need-same-length
-same-length c = search needs
-
-same-length-2 : tie.Need-same-length-2
-same-length-2 c = search needs
-
 returns-2 : tie.Need-returns-2
 unfolding setextRank
 returns-2 c =
@@ -39,10 +21,10 @@ end-heading-spec =
     tie.close
     (tie.spec
     returns
-    sub-push-end
-    part-push-end-start
-    part-push-end-end
-    push-end-requires
-    same-length
-    same-length-2
+    (λ c. search needs)
+    (λ c. search needs)
+    (λ c. search needs)
+    (λ c κs. search needs)
+    (λ c. search needs)
+    (λ c. search needs)
     returns-2)

@@ -7,11 +7,8 @@ use Rattle.on_setext.proofs.Dashes.{dash-missing, dash-read}
 returns : tie.Need-returns
 returns c = dash-missing (search needs)
 
-shared-slice-read-result : tie.Need-shared-slice-read-result
-shared-slice-read-result c = search needs
-
 returns-2 : tie.Need-returns-2
 returns-2 c = dash-read
 
 pub is-dash-spec : {M : Type 1} → statement M
-is-dash-spec = tie.close (tie.spec returns shared-slice-read-result returns-2)
+is-dash-spec = tie.close (tie.spec returns (λ c. search needs) returns-2)

@@ -9,21 +9,6 @@ use Rattle.state_whole.proofs.Shown.{holds}
 use Rattle.on_link.proofs.Lifted.{lifts-sets}
 use Rattle.on_link.proofs.Chains.{then-on-work}
 
-captured-length-requires : tie.Need-captured-length-requires
-captured-length-requires c κs = search needs
-
-hold-requires : tie.Need-hold-requires
-hold-requires c κs = search needs
-
-drop-requires : tie.Need-drop-requires
-drop-requires c κs = search needs
-
-set-slurp-requires : tie.Need-set-slurp-requires
-set-slurp-requires c κs = search needs
-
-same-length : tie.Need-same-length
-same-length c = search needs
-
 returns : tie.Need-returns
 unfolding onExitHeadingSetextText
 returns c =
@@ -36,9 +21,9 @@ pub on-exit-heading-setext-text-spec : {M : Type 1} → statement M
 on-exit-heading-setext-text-spec =
     tie.close
     (tie.spec
-    captured-length-requires
-    hold-requires
-    drop-requires
-    set-slurp-requires
-    same-length
+    (λ c κs. search needs)
+    (λ c κs. search needs)
+    (λ c κs. search needs)
+    (λ c κs. search needs)
+    (λ c. search needs)
     returns)

@@ -11,18 +11,6 @@ use Rattle.machine.specs.OnSetext.{setextRank, onExitHeadingSetextUnderlineSequ
 use Rattle.machine.specs.Command.{_▸_}
 use Rattle.machine.specs.Words.{put, lineEndingIfNeeded, release}
 
-is-dash-requires : tie.Need-is-dash-requires
-is-dash-requires c κs = search needs
-
-start-heading-requires : tie.Need-start-heading-requires
-start-heading-requires c κs = search needs
-
-release-text-requires : tie.Need-release-text-requires
-release-text-requires c κs = search needs
-
-end-heading-requires : tie.Need-end-heading-requires
-end-heading-requires c κs = search needs
-
 same-length : tie.Need-same-length
 same-length c =
     let c4 = c .before .before .before .before in
@@ -56,10 +44,10 @@ pub on-exit-heading-setext-underline-sequence-spec : {M : Type 1} → statement 
 on-exit-heading-setext-underline-sequence-spec =
     tie.close
     (tie.spec
-    is-dash-requires
-    start-heading-requires
-    release-text-requires
-    end-heading-requires
+    (λ c κs. search needs)
+    (λ c κs. search needs)
+    (λ c κs. search needs)
+    (λ c κs. search needs)
     same-length
     same-length-2
     returns)

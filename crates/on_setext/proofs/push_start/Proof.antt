@@ -5,24 +5,6 @@ use Rattle.on_setext.proofs.push_start.Tie as tie
 use native.Mathlib.Omega.{arith}
 use Rattle.state_context.proofs.Commands.{any, seq, puts}
 
-line-ending-if-needed-requires : tie.Need-line-ending-if-needed-requires
-line-ending-if-needed-requires c κs = search needs
-
-slice-aggregate-push : tie.Need-slice-aggregate-push
-slice-aggregate-push c = search needs
-
-push-requires : tie.Need-push-requires
-push-requires c κs = search needs
-
-push-rank-requires : tie.Need-push-rank-requires
-push-rank-requires c κs = search needs
-
-slice-aggregate-push-2 : tie.Need-slice-aggregate-push-2
-slice-aggregate-push-2 c = search needs
-
-push-requires-2 : tie.Need-push-requires-2
-push-requires-2 c κs = search needs
-
 same-length : tie.Need-same-length
 same-length c =
     let c4 = c .before .before .before .before in
@@ -51,12 +33,12 @@ pub push-start-spec : {M : Type 1} → statement M
 push-start-spec =
     tie.close
     (tie.spec
-    line-ending-if-needed-requires
-    slice-aggregate-push
-    push-requires
-    push-rank-requires
-    slice-aggregate-push-2
-    push-requires-2
+    (λ c κs. search needs)
+    (λ c. search needs)
+    (λ c κs. search needs)
+    (λ c κs. search needs)
+    (λ c. search needs)
+    (λ c κs. search needs)
     same-length
     same-length-2
     returns)

@@ -5,26 +5,8 @@ use Rattle.on_setext.proofs.release_text.Tie as tie
 use Rattle.on_setext.proofs.Released.{not-held, releases}
 use native.Mathlib.Omega.{arith}
 
-enum-told : tie.Need-enum-told
-enum-told c = search needs
-
-enum-known-setext : tie.Need-enum-known-setext
-enum-known-setext c = search needs
-
-push-piece-requires : tie.Need-push-piece-requires
-push-piece-requires c κs = search needs
-
-release-requires : tie.Need-release-requires
-release-requires c κs = search needs
-
 returns : tie.Need-returns
 returns c = not-held (search needs)
-
-same-length : tie.Need-same-length
-same-length c = search needs
-
-same-length-2 : tie.Need-same-length-2
-same-length-2 c = search needs
 
 returns-2 : tie.Need-returns-2
 returns-2 c =
@@ -35,11 +17,11 @@ pub release-text-spec : {M : Type 1} → statement M
 release-text-spec =
     tie.close
     (tie.spec
-    enum-told
-    enum-known-setext
-    push-piece-requires
-    release-requires
+    (λ c. search needs)
+    (λ c. search needs)
+    (λ c κs. search needs)
+    (λ c κs. search needs)
     returns
-    same-length
-    same-length-2
+    (λ c. search needs)
+    (λ c. search needs)
     returns-2)

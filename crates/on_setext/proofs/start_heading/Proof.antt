@@ -10,24 +10,6 @@ use Rattle.machine.specs.OnSetext.{setextRank}
 returns : tie.Need-returns
 returns c = too-short (search needs)
 
-sub-push-start : tie.Need-sub-push-start
-sub-push-start c = search needs
-
-part-push-start-start : tie.Need-part-push-start-start
-part-push-start-start c = search needs
-
-part-push-start-end : tie.Need-part-push-start-end
-part-push-start-end c = search needs
-
-push-start-requires : tie.Need-push-start-requires
-push-start-requires c κs = search needs
-
-same-length : tie.Need-same-length
-same-length c = search needs
-
-same-length-2 : tie.Need-same-length-2
-same-length-2 c = search needs
-
 returns-2 : tie.Need-returns-2
 unfolding setextRank
 returns-2 c =
@@ -39,10 +21,10 @@ start-heading-spec =
     tie.close
     (tie.spec
     returns
-    sub-push-start
-    part-push-start-start
-    part-push-start-end
-    push-start-requires
-    same-length
-    same-length-2
+    (λ c. search needs)
+    (λ c. search needs)
+    (λ c. search needs)
+    (λ c κs. search needs)
+    (λ c. search needs)
+    (λ c. search needs)
     returns-2)

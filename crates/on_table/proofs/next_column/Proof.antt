@@ -7,11 +7,8 @@ use Rattle.on_table.proofs.Columns.{counts, counts-no-more}
 returns : tie.Need-returns
 returns c = search counts-no-more
 
-add-column : tie.Need-add-column
-add-column c = search needs
-
 returns-2 : tie.Need-returns-2
 returns-2 c = search counts
 
 pub next-column-spec : {M : Type 1} → statement M
-next-column-spec = tie.close (tie.spec returns add-column returns-2)
+next-column-spec = tie.close (tie.spec returns (λ c. search needs) returns-2)

@@ -5,24 +5,6 @@ use Rattle.on_table.proofs.on_enter_gfm_table.Tie as tie
 use Rattle.machine.specs.OnTable.{onEnterGfmTable}
 use Rattle.state_context.proofs.Commands.{any, seq, puts}
 
-open-table-requires : tie.Need-open-table-requires
-open-table-requires c κs = search needs
-
-line-ending-if-needed-requires : tie.Need-line-ending-if-needed-requires
-line-ending-if-needed-requires c κs = search needs
-
-slice-aggregate-push : tie.Need-slice-aggregate-push
-slice-aggregate-push c = search needs
-
-push-requires : tie.Need-push-requires
-push-requires c κs = search needs
-
-same-length : tie.Need-same-length
-same-length c = search needs
-
-same-length-2 : tie.Need-same-length-2
-same-length-2 c = search needs
-
 returns : tie.Need-returns
 unfolding onEnterGfmTable
 returns c =
@@ -35,10 +17,10 @@ pub on-enter-gfm-table-spec : {M : Type 1} → statement M
 on-enter-gfm-table-spec =
     tie.close
     (tie.spec
-    open-table-requires
-    line-ending-if-needed-requires
-    slice-aggregate-push
-    push-requires
-    same-length
-    same-length-2
+    (λ c κs. search needs)
+    (λ c κs. search needs)
+    (λ c. search needs)
+    (λ c κs. search needs)
+    (λ c. search needs)
+    (λ c. search needs)
     returns)

@@ -6,27 +6,12 @@ use native.Mathlib.Omega.{arith}
 use Rattle.machine.specs.OnTable.{onEnterGfmTableHead}
 use Rattle.state_context.proofs.Commands.{sets, seq, puts}
 
-line-ending-if-needed-requires : tie.Need-line-ending-if-needed-requires
-line-ending-if-needed-requires c κs = search needs
-
-slice-aggregate-push : tie.Need-slice-aggregate-push
-slice-aggregate-push c = search needs
-
-push-requires : tie.Need-push-requires
-push-requires c κs = search needs
-
-set-head-requires : tie.Need-set-head-requires
-set-head-requires c κs = search needs
-
 same-length : tie.Need-same-length
 same-length c =
     let c3 = c in
     let c2 = c3 .before .before .before .before .before in
     let c1 = c2 .before .before .before .before .before .before .before .before in
     omega (arith, (c1 .line-ending-if-needed .kept), (c2 .push .kept))
-
-same-length-2 : tie.Need-same-length-2
-same-length-2 c = search needs
 
 returns : tie.Need-returns
 unfolding onEnterGfmTableHead
@@ -40,10 +25,10 @@ pub on-enter-gfm-table-head-spec : {M : Type 1} → statement M
 on-enter-gfm-table-head-spec =
     tie.close
     (tie.spec
-    line-ending-if-needed-requires
-    slice-aggregate-push
-    push-requires
-    set-head-requires
+    (λ c κs. search needs)
+    (λ c. search needs)
+    (λ c κs. search needs)
+    (λ c κs. search needs)
     same-length
-    same-length-2
+    (λ c. search needs)
     returns)

@@ -5,24 +5,6 @@ use Rattle.on_table.proofs.on_exit_gfm_table_head.Tie as tie
 use Rattle.machine.specs.OnTable.{onExitGfmTableHead}
 use Rattle.state_context.proofs.Commands.{sets, seq, puts}
 
-set-head-requires : tie.Need-set-head-requires
-set-head-requires c κs = search needs
-
-line-ending-if-needed-requires : tie.Need-line-ending-if-needed-requires
-line-ending-if-needed-requires c κs = search needs
-
-slice-aggregate-push : tie.Need-slice-aggregate-push
-slice-aggregate-push c = search needs
-
-push-requires : tie.Need-push-requires
-push-requires c κs = search needs
-
-same-length : tie.Need-same-length
-same-length c = search needs
-
-same-length-2 : tie.Need-same-length-2
-same-length-2 c = search needs
-
 returns : tie.Need-returns
 unfolding onExitGfmTableHead
 returns c =
@@ -35,10 +17,10 @@ pub on-exit-gfm-table-head-spec : {M : Type 1} → statement M
 on-exit-gfm-table-head-spec =
     tie.close
     (tie.spec
-    set-head-requires
-    line-ending-if-needed-requires
-    slice-aggregate-push
-    push-requires
-    same-length
-    same-length-2
+    (λ c κs. search needs)
+    (λ c κs. search needs)
+    (λ c. search needs)
+    (λ c κs. search needs)
+    (λ c. search needs)
+    (λ c. search needs)
     returns)

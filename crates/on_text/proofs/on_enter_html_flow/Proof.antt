@@ -6,18 +6,6 @@ use Rattle.machine.specs.OnText.{onEnterHtmlFlow}
 use Rattle.machine.specs.OnText.{onEnterHtmlText}
 use Rattle.state_context.proofs.Commands.{any, sets, seq}
 
-line-ending-if-needed-requires : tie.Need-line-ending-if-needed-requires
-line-ending-if-needed-requires c κs = search needs
-
-on-enter-html-text-requires : tie.Need-on-enter-html-text-requires
-on-enter-html-text-requires c κs = search needs
-
-same-length : tie.Need-same-length
-same-length c = search needs
-
-same-length-2 : tie.Need-same-length-2
-same-length-2 c = search needs
-
 returns : tie.Need-returns
 unfolding onEnterHtmlFlow onEnterHtmlText
 returns c =
@@ -29,8 +17,8 @@ pub on-enter-html-flow-spec : {M : Type 1} → statement M
 on-enter-html-flow-spec =
     tie.close
     (tie.spec
-    line-ending-if-needed-requires
-    on-enter-html-text-requires
-    same-length
-    same-length-2
+    (λ c κs. search needs)
+    (λ c κs. search needs)
+    (λ c. search needs)
+    (λ c. search needs)
     returns)

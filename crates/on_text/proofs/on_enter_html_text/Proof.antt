@@ -5,9 +5,6 @@ use Rattle.on_text.proofs.on_enter_html_text.Tie as tie
 use Rattle.machine.specs.OnText.{onEnterHtmlText}
 use Rattle.state_context.proofs.Commands.{idle, sets, whether-yes, whether-no, tells-html}
 
-set-encode-requires : tie.Need-set-encode-requires
-set-encode-requires c κs = search needs
-
 returns : tie.Need-returns
 unfolding onEnterHtmlText
 returns c =
@@ -19,4 +16,4 @@ unfolding onEnterHtmlText
 returns-2 c = record { sets = λ w o. whether-no tells-html (search needs) idle }
 
 pub on-enter-html-text-spec : {M : Type 1} → statement M
-on-enter-html-text-spec = tie.close (tie.spec set-encode-requires returns returns-2)
+on-enter-html-text-spec = tie.close (tie.spec (λ c κs. search needs) returns returns-2)

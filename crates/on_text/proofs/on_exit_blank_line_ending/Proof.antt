@@ -5,18 +5,6 @@ use Rattle.on_text.proofs.on_exit_blank_line_ending.Tie as tie
 use Rattle.machine.specs.OnText.{onExitBlankLineEnding}
 use Rattle.state_context.proofs.Commands.{any, idle, sets, seq, whether-yes, whether-no, tells-last}
 
-set-slurp-requires : tie.Need-set-slurp-requires
-set-slurp-requires c κs = search needs
-
-line-ending-if-needed-requires : tie.Need-line-ending-if-needed-requires
-line-ending-if-needed-requires c κs = search needs
-
-same-length : tie.Need-same-length
-same-length c = search needs
-
-same-length-2 : tie.Need-same-length-2
-same-length-2 c = search needs
-
 returns : tie.Need-returns
 unfolding onExitBlankLineEnding
 returns c =
@@ -34,9 +22,9 @@ pub on-exit-blank-line-ending-spec : {M : Type 1} → statement M
 on-exit-blank-line-ending-spec =
     tie.close
     (tie.spec
-    set-slurp-requires
-    line-ending-if-needed-requires
-    same-length
-    same-length-2
+    (λ c κs. search needs)
+    (λ c κs. search needs)
+    (λ c. search needs)
+    (λ c. search needs)
     returns
     returns-2)

@@ -6,9 +6,6 @@ use Rattle.on_text.proofs.on_exit_character_reference_marker_hexadecima
 use Rattle.on_text.proofs.on_exit_character_reference_marker_hexadecimal.Tie as tie
 use Rattle.machine.specs.OnText.{onExitCharacterReferenceMarkerHexadecimal}
 
-set-marker-requires : tie.Need-set-marker-requires
-set-marker-requires c κs = search needs
-
 returns : tie.Need-returns
 unfolding onExitCharacterReferenceMarkerHexadecimal
 returns c =
@@ -17,4 +14,4 @@ returns c =
 
 pub on-exit-character-reference-marker-hexadecimal-spec : {M : Type 1} → statement M
 on-exit-character-reference-marker-hexadecimal-spec =
-    tie.close (tie.spec set-marker-requires returns)
+    tie.close (tie.spec (λ c κs. search needs) returns)

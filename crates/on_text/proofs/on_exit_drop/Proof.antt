@@ -4,9 +4,6 @@ use Rattle.on_text.proofs.on_exit_drop.Statement.{statement}
 use Rattle.on_text.proofs.on_exit_drop.Tie as tie
 use Rattle.machine.specs.OnText.{onExitDrop}
 
-drop-requires : tie.Need-drop-requires
-drop-requires c κs = search needs
-
 returns : tie.Need-returns
 unfolding onExitDrop
 returns c =
@@ -14,4 +11,4 @@ returns c =
     (c1 .drop .ensures)
 
 pub on-exit-drop-spec : {M : Type 1} → statement M
-on-exit-drop-spec = tie.close (tie.spec drop-requires returns)
+on-exit-drop-spec = tie.close (tie.spec (λ c κs. search needs) returns)

@@ -4,12 +4,9 @@ use Rattle.on_text.proofs.on_exit_html.Statement.{statement}
 use Rattle.on_text.proofs.on_exit_html.Tie as tie
 use Rattle.machine.specs.OnText.{onExitHtml}
 
-set-encode-requires : tie.Need-set-encode-requires
-set-encode-requires c κs = search needs
-
 returns : tie.Need-returns
 unfolding onExitHtml
 returns c = search needs
 
 pub on-exit-html-spec : {M : Type 1} → statement M
-on-exit-html-spec = tie.close (tie.spec set-encode-requires returns)
+on-exit-html-spec = tie.close (tie.spec (λ c κs. search needs) returns)

@@ -7,11 +7,8 @@ use Rattle.packed.proofs.Bits.{none-fewer, one-fewer}
 returns : tie.Need-returns
 returns c = search none-fewer
 
-sub-t5 : tie.Need-sub-t5
-sub-t5 c = search needs
-
 returns-2 : tie.Need-returns-2
 returns-2 c = search one-fewer
 
 pub fewer-spec : {M : Type 1} → statement M
-fewer-spec = tie.close (tie.spec returns sub-t5 returns-2)
+fewer-spec = tie.close (tie.spec returns (λ c. search needs) returns-2)

@@ -11,11 +11,8 @@ returns c = search too-deep
 returns-2 : tie.Need-returns-2
 returns-2 c = search too-wide
 
-with-bit-requires : tie.Need-with-bit-requires
-with-bit-requires c κs = search needs
-
 returns-3 : tie.Need-returns-3
 returns-3 c = search widens
 
 pub more-spec : {M : Type 1} → statement M
-more-spec = tie.close (tie.spec returns returns-2 with-bit-requires returns-3)
+more-spec = tie.close (tie.spec returns returns-2 (λ c κs. search needs) returns-3)

@@ -4,23 +4,8 @@ use Rattle.packed.proofs.with_digit.Statement.{statement}
 use Rattle.packed.proofs.with_digit.Tie as tie
 use Rattle.packed.proofs.Digits.{is-there, still-fits, places}
 
-digit-requires : tie.Need-digit-requires
-digit-requires c κs = search needs
-
-mul-result : tie.Need-mul-result
-mul-result c = search needs
-
-shl-result : tie.Need-shl-result
-shl-result c = search needs
-
 sub-result : tie.Need-sub-result
 sub-result c = search (is-there, needs)
-
-mul-result-2 : tie.Need-mul-result-2
-mul-result-2 c = search needs
-
-shl-result-2 : tie.Need-shl-result-2
-shl-result-2 c = search needs
 
 add-result : tie.Need-add-result
 add-result c = record { fits = search (still-fits, needs) }
@@ -30,4 +15,5 @@ returns c = search (places, needs)
 
 pub with-digit-spec : {M : Type 1} → statement M
 with-digit-spec =
-    tie.close (tie.spec digit-requires mul-result shl-result sub-result mul-result-2 shl-result-2 add-result returns)
+    tie.close (tie.spec (λ c κs. search needs) (λ c. search needs) (λ c. search needs) sub-result (λ c. search needs) (λ c. search needs)
+    add-result returns)

@@ -8,9 +8,6 @@ use Rattle.regions.proofs.fitting.Reads as fitting-reads
 use Rattle.regions.proofs.is_apart.Reads as is-apart-reads
 use Rattle.regions.proofs.Moves.{not-apart, too-full, too-high-up, apart-there, carried}
 
-is-apart-requires : tie.Need-is-apart-requires
-is-apart-requires c κs = search needs
-
 returns : tie.Need-returns
 returns c = search not-apart
 
@@ -20,20 +17,8 @@ returns-2 c = search too-full
 returns-3 : tie.Need-returns-3
 returns-3 c = search too-high-up
 
-fitting-requires : tie.Need-fitting-requires
-fitting-requires c κs = search needs
-
-add-copy : tie.Need-add-copy
-add-copy c = search needs
-
 copy-requires : tie.Need-copy-requires
 copy-requires c κs = search apart-there
-
-behind-requires : tie.Need-behind-requires
-behind-requires c κs = search needs
-
-same-length : tie.Need-same-length
-same-length c = search needs
 
 returns-4 : tie.Need-returns-4
 returns-4 c = search carried
@@ -42,13 +27,13 @@ pub carry-spec : {M : Type 1} → statement M
 carry-spec =
     tie.close
     (tie.spec
-    is-apart-requires
+    (λ c κs. search needs)
     returns
     returns-2
     returns-3
-    fitting-requires
-    add-copy
+    (λ c κs. search needs)
+    (λ c. search needs)
     copy-requires
-    behind-requires
-    same-length
+    (λ c κs. search needs)
+    (λ c. search needs)
     returns-4)

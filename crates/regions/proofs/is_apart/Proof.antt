@@ -16,14 +16,8 @@ returns-3 c = search too-short
 returns-4 : tie.Need-returns-4
 returns-4 c = search too-high
 
-add-if5 : tie.Need-add-if5
-add-if5 c = search needs
-
 returns-5 : tie.Need-returns-5
 returns-5 c = search below
-
-add-result : tie.Need-add-result
-add-result c = search needs
 
 returns-6 : tie.Need-returns-6
 returns-6 c = search above
@@ -31,4 +25,4 @@ returns-6 c = search above
 pub is-apart-spec : {M : Type 1} → statement M
 is-apart-spec =
     tie.close
-    (tie.spec returns returns-2 returns-3 returns-4 add-if5 returns-5 add-result returns-6)
+    (tie.spec returns returns-2 returns-3 returns-4 (λ c. search needs) returns-5 (λ c. search needs) returns-6)

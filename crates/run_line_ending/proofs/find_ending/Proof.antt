@@ -15,29 +15,11 @@ Inv-loop text events default n i₀ i = Walks default text events n i
 abbrev μ-loop : tie.MeasureT-loop
 μ-loop text events default n i₀ i = n - i
 
-count-requires : tie.Need-count-requires Inv-loop μ-loop
-count-requires c κs = search needs
-
 loop-holds : tie.Need-loop-holds Inv-loop μ-loop
 loop-holds c = search walks
 
-read-requires : tie.Need-read-requires Inv-loop μ-loop
-read-requires c κs = search needs
-
-ends-line-requires : tie.Need-ends-line-requires Inv-loop μ-loop
-ends-line-requires c κs = search needs
-
-parse-requires : tie.Need-parse-requires Inv-loop μ-loop
-parse-requires c κs = search needs
-
 returns : tie.Need-returns Inv-loop μ-loop
 returns c = search found
-
-add-i : tie.Need-add-i Inv-loop μ-loop
-add-i c = search needs
-
-loop-less : tie.Need-loop-less Inv-loop μ-loop
-loop-less c = search needs
 
 loop-again : tie.Need-loop-again Inv-loop μ-loop
 loop-again c = search walks-on
@@ -51,13 +33,13 @@ find-ending-spec =
     (tie.spec
     Inv-loop
     μ-loop
-    count-requires
+    (λ c κs. search needs)
     loop-holds
-    read-requires
-    ends-line-requires
-    parse-requires
+    (λ c κs. search needs)
+    (λ c κs. search needs)
+    (λ c κs. search needs)
     returns
-    add-i
-    loop-less
+    (λ c. search needs)
+    (λ c. search needs)
     loop-again
     returns-2)

@@ -7,17 +7,11 @@ use Rattle.run_line_ending.proofs.Laws.{outside, feed, empty, return-al
 returns : tie.Need-returns
 returns c = search outside
 
-shared-slice-read-if2 : tie.Need-shared-slice-read-if2
-shared-slice-read-if2 c = search needs
-
 returns-2 : tie.Need-returns-2
 returns-2 c = search feed
 
 returns-3 : tie.Need-returns-3
 returns-3 c = search empty
-
-sub-if4 : tie.Need-sub-if4
-sub-if4 c = search needs
 
 returns-4 : tie.Need-returns-4
 returns-4 c = search return-alone
@@ -28,4 +22,4 @@ returns-5 c = search both
 pub parse-spec : {M : Type 1} → statement M
 parse-spec =
     tie.close
-    (tie.spec returns shared-slice-read-if2 returns-2 returns-3 sub-if4 returns-4 returns-5)
+    (tie.spec returns (λ c. search needs) returns-2 returns-3 (λ c. search needs) returns-4 returns-5)

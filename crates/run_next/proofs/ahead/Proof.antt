@@ -4,14 +4,8 @@ use borrow.Author.Needs.{needs}
 use Rattle.run_next.proofs.ahead.Statement.{statement}
 use Rattle.run_next.proofs.ahead.Tie as tie
 
-jump-requires : tie.Need-jump-requires
-jump-requires c κs = search needs
-
-walk-requires : tie.Need-walk-requires
-walk-requires c κs = search needs
-
 returns : tie.Need-returns
 returns c = then-ahead (c .before .jump .ensures) (c .walk .ensures)
 
 pub ahead-spec : {M : Type 1} → statement M
-ahead-spec = tie.close (tie.spec jump-requires walk-requires returns)
+ahead-spec = tie.close (tie.spec (λ c κs. search needs) (λ c κs. search needs) returns)

@@ -6,17 +6,11 @@ use Rattle.run_next.proofs.is_here.Tie as tie
 returns : tie.Need-returns
 returns c = search (here-inside, needs)
 
-kind-at-requires : tie.Need-kind-at-requires
-kind-at-requires c κs = search needs
-
 returns-2 : tie.Need-returns-2
 returns-2 c = search (here-exit, needs)
-
-name-at-requires : tie.Need-name-at-requires
-name-at-requires c κs = search needs
 
 returns-3 : tie.Need-returns-3
 returns-3 c = search (here-enter, needs)
 
 pub is-here-spec : {M : Type 1} → statement M
-is-here-spec = tie.close (tie.spec returns kind-at-requires returns-2 name-at-requires returns-3)
+is-here-spec = tie.close (tie.spec returns (λ c κs. search needs) returns-2 (λ c κs. search needs) returns-3)

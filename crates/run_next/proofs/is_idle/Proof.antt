@@ -7,17 +7,11 @@ use Rattle.run_next.proofs.is_idle.Tie as tie
 returns : tie.Need-returns
 returns c = beyond
 
-shr-result : tie.Need-shr-result
-shr-result c = search needs
-
 returns-2 : tie.Need-returns-2
 returns-2 c = idle-enter (c .before .if1 .left) (c .if2 .taken)
-
-shr-result-2 : tie.Need-shr-result-2
-shr-result-2 c = search needs
 
 returns-3 : tie.Need-returns-3
 returns-3 c = idle-exit (c .before .if1 .left) (c .if2 .left)
 
 pub is-idle-spec : {M : Type 1} → statement M
-is-idle-spec = tie.close (tie.spec returns shr-result returns-2 shr-result-2 returns-3)
+is-idle-spec = tie.close (tie.spec returns (λ c. search needs) returns-2 (λ c. search needs) returns-3)

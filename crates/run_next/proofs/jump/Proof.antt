@@ -7,9 +7,6 @@ use Rattle.run_next.proofs.jump.Tie as tie
 returns : tie.Need-returns
 returns c = walks-start
 
-next-definition-requires : tie.Need-next-definition-requires
-next-definition-requires c κs = search needs
-
 returns-2 : tie.Need-returns-2
 returns-2 c = jumps (c .before .before .if1 .taken) (c .before .if2 .left) (c .next-definition .ensures)
 
@@ -17,4 +14,4 @@ returns-3 : tie.Need-returns-3
 returns-3 c = walks-start
 
 pub jump-spec : {M : Type 1} → statement M
-jump-spec = tie.close (tie.spec returns next-definition-requires returns-2 returns-3)
+jump-spec = tie.close (tie.spec returns (λ c κs. search needs) returns-2 returns-3)

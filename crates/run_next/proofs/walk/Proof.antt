@@ -15,23 +15,8 @@ Inv-loop first events n at₀ inside₀ at inside = (n ≡ length events / 20) �
 abbrev μ-loop : tie.MeasureT-loop
 μ-loop first events n at₀ inside₀ at inside = n - at
 
-count-requires : tie.Need-count-requires Inv-loop μ-loop
-count-requires c κs = search needs
-
 loop-holds : tie.Need-loop-holds Inv-loop μ-loop
 loop-holds c = (search needs, walks-start)
-
-is-left-requires : tie.Need-is-left-requires Inv-loop μ-loop
-is-left-requires c κs = search needs
-
-stays-inside-requires : tie.Need-stays-inside-requires Inv-loop μ-loop
-stays-inside-requires c κs = search needs
-
-add-at : tie.Need-add-at Inv-loop μ-loop
-add-at c = search needs
-
-loop-less : tie.Need-loop-less Inv-loop μ-loop
-loop-less c = search needs
 
 loop-again : tie.Need-loop-again Inv-loop μ-loop
 loop-again c =
@@ -50,12 +35,12 @@ walk-spec =
     (tie.spec
     Inv-loop
     μ-loop
-    count-requires
+    (λ c κs. search needs)
     loop-holds
-    is-left-requires
-    stays-inside-requires
-    add-at
-    loop-less
+    (λ c κs. search needs)
+    (λ c κs. search needs)
+    (λ c. search needs)
+    (λ c. search needs)
     loop-again
     returns
     returns-2)

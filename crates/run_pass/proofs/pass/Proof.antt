@@ -20,14 +20,8 @@ Inv-loop first text events options work₀ starts₀ out₀ definitions₀ footn
 abbrev μ-loop : tie.MeasureT-loop
 μ-loop first text events options work₀ starts₀ out₀ definitions₀ footnotes₀ calls₀ labels₀ n r₀ p₀ number₀ work starts out definitions footnotes calls labels r p number = n - p .at
 
-count-requires : tie.Need-count-requires Inv-loop μ-loop
-count-requires c κs = search needs
-
 loop-holds : tie.Need-loop-holds Inv-loop μ-loop
 loop-holds c = (search needs, search needs, search needs, search needs, search needs, search needs, search needs, search needs, search needs, stays-start)
-
-ahead-requires : tie.Need-ahead-requires Inv-loop μ-loop
-ahead-requires c κs = search needs
 
 same-length : tie.Need-same-length Inv-loop μ-loop
 same-length c = omega (arith, c .before .before .before .loop .inv)
@@ -53,23 +47,8 @@ same-length-7 c = omega (arith, c .before .before .before .loop .inv)
 returns : tie.Need-returns Inv-loop μ-loop
 returns c = let inv = c .before .before .before .loop .inv in all-steps (omega (arith, c .if1 .taken, inv .0)) (c .before .ahead .ensures .walks .goes (inv .9 .on (c .before .before .loop-test .taken)))
 
-stays-inside-requires : tie.Need-stays-inside-requires Inv-loop μ-loop
-stays-inside-requires c κs = search needs
-
 add-captures : tie.Need-add-captures Inv-loop μ-loop
 add-captures c = omega (arith, c .before .if1 .left, c .before .before .before .before .before .count .ok)
-
-read-requires : tie.Need-read-requires Inv-loop μ-loop
-read-requires c κs = search needs
-
-is-whole-requires : tie.Need-is-whole-requires Inv-loop μ-loop
-is-whole-requires c κs = search needs
-
-handle-whole-requires : tie.Need-handle-whole-requires Inv-loop μ-loop
-handle-whole-requires c κs = search needs
-
-lack-requires : tie.Need-lack-requires Inv-loop μ-loop
-lack-requires c κs = search needs
 
 loop-less : tie.Need-loop-less Inv-loop μ-loop
 loop-less c = omega (arith, c .before .before .before .before .before .before .before .before .before .before .before .before .before .before .before .before .before .before .before .before .before .before .before .before .before .before .before .if1 .left, c .before .before .before .before .before .before .before .before .before .before .before .before .before .before .before .before .before .before .before .before .before .before .before .before .before .before .before .before .ahead .ensures .walks .later)
@@ -90,24 +69,6 @@ loop-again c =
       omega (arith, call .handle-whole .kept, inv),
       stays (omega (arith, call .before .before .before .before .before .before .before .before .before .before .before .before .if1 .left, inv .0)) (next .ahead .ensures .walks .goes (inv .9 .on (next .before .loop-test .taken))) (call .before .before .before .before .before .before .before .before .before .before .before .stays-inside .ensures) (next .ahead .ensures .here (omega (arith, call .before .before .before .before .before .before .before .before .before .before .before .before .if1 .left, inv .0))) (turned-wholly (call .before .before .before .before .before .before .before .before .before .before .read .ensures) (call .before .before .before .before .before .before .before .before .before .is-whole .ensures) (call .before .before .before .before .before .before .before .before .if2 .taken) (call .handle-whole .ensures)) (omega (arith, call .handle-whole .kept)) (c .lack .ensures),
     )
-
-sub-captures : tie.Need-sub-captures Inv-loop μ-loop
-sub-captures c = search needs
-
-part-captures-start : tie.Need-part-captures-start Inv-loop μ-loop
-part-captures-start c = search needs
-
-part-captures-end : tie.Need-part-captures-end Inv-loop μ-loop
-part-captures-end c = search needs
-
-is-enter-requires : tie.Need-is-enter-requires Inv-loop μ-loop
-is-enter-requires c κs = search needs
-
-on-enter-requires : tie.Need-on-enter-requires Inv-loop μ-loop
-on-enter-requires c κs = search needs
-
-lack-requires-2 : tie.Need-lack-requires-2 Inv-loop μ-loop
-lack-requires-2 c κs = search needs
 
 loop-less-2 : tie.Need-loop-less-2 Inv-loop μ-loop
 loop-less-2 c = omega (arith, c .before .before .before .before .before .before .before .before .before .before .before .before .before .before .before .before .before .before .if1 .left, c .before .before .before .before .before .before .before .before .before .before .before .before .before .before .before .before .before .before .before .ahead .ensures .walks .later)
@@ -133,9 +94,6 @@ loop-again-2 c =
 
 handle-exit-requires : tie.Need-handle-exit-requires Inv-loop μ-loop
 handle-exit-requires c κs = (omega (arith, c .before .before .before .before .before .before .before .before .before .before .if1 .left, c .before .before .before .before .before .before .before .before .before .before .before .before .before .loop .inv .0), sym (c .before .before .before .is-enter .ensures) ∙ c .before .before .if3 .left)
-
-lack-requires-3 : tie.Need-lack-requires-3 Inv-loop μ-loop
-lack-requires-3 c κs = search needs
 
 loop-less-3 : tie.Need-loop-less-3 Inv-loop μ-loop
 loop-less-3 c = omega (arith, c .before .before .before .before .before .before .before .before .before .before .before .before .before .before .before .before .before .before .if1 .left, c .before .before .before .before .before .before .before .before .before .before .before .before .before .before .before .before .before .before .before .ahead .ensures .walks .later)
@@ -192,9 +150,9 @@ pass-spec =
     (tie.spec
     Inv-loop
     μ-loop
-    count-requires
+    (λ c κs. search needs)
     loop-holds
-    ahead-requires
+    (λ c κs. search needs)
     same-length
     same-length-2
     same-length-3
@@ -203,24 +161,24 @@ pass-spec =
     same-length-6
     same-length-7
     returns
-    stays-inside-requires
+    (λ c κs. search needs)
     add-captures
-    read-requires
-    is-whole-requires
-    handle-whole-requires
-    lack-requires
+    (λ c κs. search needs)
+    (λ c κs. search needs)
+    (λ c κs. search needs)
+    (λ c κs. search needs)
     loop-less
     loop-again
-    sub-captures
-    part-captures-start
-    part-captures-end
-    is-enter-requires
-    on-enter-requires
-    lack-requires-2
+    (λ c. search needs)
+    (λ c. search needs)
+    (λ c. search needs)
+    (λ c κs. search needs)
+    (λ c κs. search needs)
+    (λ c κs. search needs)
     loop-less-2
     loop-again-2
     handle-exit-requires
-    lack-requires-3
+    (λ c κs. search needs)
     loop-less-3
     loop-again-3
     sub-t59

@@ -4,18 +4,6 @@ use borrow.Author.Needs.{needs}
 use Rattle.sanitize_uri.proofs.is_listed.Statement.{statement}
 use Rattle.sanitize_uri.proofs.is_listed.Tie as tie
 
-enum-told : tie.Need-enum-told
-enum-told c = search needs
-
-is-link-scheme-requires : tie.Need-is-link-scheme-requires
-is-link-scheme-requires c κs = search needs
-
-enum-told-2 : tie.Need-enum-told-2
-enum-told-2 c = search needs
-
-is-web-scheme-requires : tie.Need-is-web-scheme-requires
-is-web-scheme-requires c κs = search needs
-
 returns : tie.Need-returns
 returns c = search listed-by
 
@@ -26,9 +14,9 @@ pub is-listed-spec : {M : Type 1} → statement M
 is-listed-spec =
     tie.close
     (tie.spec
-    enum-told
-    is-link-scheme-requires
-    enum-told-2
-    is-web-scheme-requires
+    (λ c. search needs)
+    (λ c κs. search needs)
+    (λ c. search needs)
+    (λ c κs. search needs)
     returns
     returns-2)

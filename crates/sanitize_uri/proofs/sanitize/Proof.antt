@@ -5,14 +5,8 @@ use borrow.Author.Needs.{needs}
 use Rattle.sanitize_uri.proofs.sanitize.Statement.{statement}
 use Rattle.sanitize_uri.proofs.sanitize.Tie as tie
 
-put-url-requires : tie.Need-put-url-requires
-put-url-requires c κs = search needs
-
-same-length : tie.Need-same-length
-same-length c = search needs
-
 returns : tie.Need-returns
 returns c = search (same, sanitized)
 
 pub sanitize-spec : {M : Type 1} → statement M
-sanitize-spec = tie.close (tie.spec put-url-requires same-length returns)
+sanitize-spec = tie.close (tie.spec (λ c κs. search needs) (λ c. search needs) returns)

@@ -24,26 +24,8 @@ Inv-search text starts ends firsts seconds n label s rows k₀ k = Seeking text 
 abbrev μ-search : tie.MeasureT-search
 μ-search text starts ends firsts seconds n label s rows k₀ k = rows - k
 
-sign-requires : tie.Need-sign-requires Inv-same μ-same Inv-search μ-search
-sign-requires c κs = search needs
-
-least-requires : tie.Need-least-requires Inv-same μ-same Inv-search μ-search
-least-requires c κs = search needs
-
-least-requires-2 : tie.Need-least-requires-2 Inv-same μ-same Inv-search μ-search
-least-requires-2 c κs = search needs
-
 search-holds : tie.Need-search-holds Inv-same μ-same Inv-search μ-search
 search-holds c = search seek-start
-
-row-differs-requires : tie.Need-row-differs-requires Inv-same μ-same Inv-search μ-search
-row-differs-requires c κs = search needs
-
-add-k : tie.Need-add-k Inv-same μ-same Inv-search μ-search
-add-k c = search needs
-
-search-less : tie.Need-search-less Inv-same μ-same Inv-search μ-search
-search-less c = search needs
 
 search-again : tie.Need-search-again Inv-same μ-same Inv-search μ-search
 search-again c =
@@ -51,68 +33,14 @@ search-again c =
     let l = i .before .before in
     seek-skip (i .before .search .inv) (l .before .least .ensures) (l .least2 .ensures) (i .if1 .left) (c .before .row-differs .ensures) (c .if2 .taken) (l .before .before .sign .ensures)
 
-mul-part : tie.Need-mul-part Inv-same μ-same Inv-search μ-search
-mul-part c = search needs
-
-shared-slice-read-part : tie.Need-shared-slice-read-part Inv-same μ-same Inv-search μ-search
-shared-slice-read-part c = search needs
-
-mul-part-2 : tie.Need-mul-part-2 Inv-same μ-same Inv-search μ-search
-mul-part-2 c = search needs
-
-shared-slice-read-part-2 : tie.Need-shared-slice-read-part-2 Inv-same μ-same Inv-search μ-search
-shared-slice-read-part-2 c = search needs
-
-part-requires : tie.Need-part-requires Inv-same μ-same Inv-search μ-search
-part-requires c κs = search needs
-
-start-requires : tie.Need-start-requires Inv-same μ-same Inv-search μ-search
-start-requires c κs = search needs
-
-start-requires-2 : tie.Need-start-requires-2 Inv-same μ-same Inv-search μ-search
-start-requires-2 c κs = search needs
-
 same-holds : tie.Need-same-holds Inv-same μ-same Inv-search μ-search
 same-holds c = search same-start
-
-next-requires : tie.Need-next-requires Inv-same μ-same Inv-search μ-search
-next-requires c κs = search needs
-
-enum-known-x : tie.Need-enum-known-x Inv-same μ-same Inv-search μ-search
-enum-known-x c = search needs
-
-enum-told : tie.Need-enum-told Inv-same μ-same Inv-search μ-search
-enum-told c = search needs
-
-next-requires-2 : tie.Need-next-requires-2 Inv-same μ-same Inv-search μ-search
-next-requires-2 c κs = search needs
-
-enum-told-2 : tie.Need-enum-told-2 Inv-same μ-same Inv-search μ-search
-enum-told-2 c = search needs
-
-enum-told-3 : tie.Need-enum-told-3 Inv-same μ-same Inv-search μ-search
-enum-told-3 c = search needs
-
-next-requires-3 : tie.Need-next-requires-3 Inv-same μ-same Inv-search μ-search
-next-requires-3 c κs = search needs
-
-enum-known-y : tie.Need-enum-known-y Inv-same μ-same Inv-search μ-search
-enum-known-y c = search needs
-
-enum-told-4 : tie.Need-enum-told-4 Inv-same μ-same Inv-search μ-search
-enum-told-4 c = search needs
 
 same-less : tie.Need-same-less Inv-same μ-same Inv-search μ-search
 same-less c = search forward-more
 
 same-again : tie.Need-same-again Inv-same μ-same Inv-search μ-search
 same-again c = search same-more
-
-add-k-2 : tie.Need-add-k-2 Inv-same μ-same Inv-search μ-search
-add-k-2 c = search needs
-
-search-less-2 : tie.Need-search-less-2 Inv-same μ-same Inv-search μ-search
-search-less-2 c = search needs
 
 search-again-2 : tie.Need-search-again-2 Inv-same μ-same Inv-search μ-search
 search-again-2 c =
@@ -140,35 +68,35 @@ find-spec =
     μ-same
     Inv-search
     μ-search
-    sign-requires
-    least-requires
-    least-requires-2
+    (λ c κs. search needs)
+    (λ c κs. search needs)
+    (λ c κs. search needs)
     search-holds
-    row-differs-requires
-    add-k
-    search-less
+    (λ c κs. search needs)
+    (λ c. search needs)
+    (λ c. search needs)
     search-again
-    mul-part
-    shared-slice-read-part
-    mul-part-2
-    shared-slice-read-part-2
-    part-requires
-    start-requires
-    start-requires-2
+    (λ c. search needs)
+    (λ c. search needs)
+    (λ c. search needs)
+    (λ c. search needs)
+    (λ c κs. search needs)
+    (λ c κs. search needs)
+    (λ c κs. search needs)
     same-holds
-    next-requires
-    enum-known-x
-    enum-told
-    next-requires-2
-    enum-told-2
-    enum-told-3
-    next-requires-3
-    enum-known-y
-    enum-told-4
+    (λ c κs. search needs)
+    (λ c. search needs)
+    (λ c. search needs)
+    (λ c κs. search needs)
+    (λ c. search needs)
+    (λ c. search needs)
+    (λ c κs. search needs)
+    (λ c. search needs)
+    (λ c. search needs)
     same-less
     same-again
-    add-k-2
-    search-less-2
+    (λ c. search needs)
+    (λ c. search needs)
     search-again-2
     returns
     returns-2)

@@ -7,14 +7,8 @@ use Rattle.state_buffers.proofs.Captures.{drops, drops-not}
 returns : tie.Need-returns
 returns c = search drops-not
 
-sub-d : tie.Need-sub-d
-sub-d c = search needs
-
-start-at-requires : tie.Need-start-at-requires
-start-at-requires c κs = search needs
-
 returns-2 : tie.Need-returns-2
 returns-2 c = search drops
 
 pub drop-spec : {M : Type 1} → statement M
-drop-spec = tie.close (tie.spec returns sub-d start-at-requires returns-2)
+drop-spec = tie.close (tie.spec returns (λ c. search needs) (λ c κs. search needs) returns-2)

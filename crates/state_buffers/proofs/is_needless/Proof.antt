@@ -4,14 +4,8 @@ use Rattle.state_buffers.proofs.is_needless.Statement.{statement}
 use Rattle.state_buffers.proofs.is_needless.Tie as tie
 use Rattle.state_buffers.proofs.Lines.{needless-at-start}
 
-returns : tie.Need-returns
-returns c = search needs
-
-at-line-start-requires : tie.Need-at-line-start-requires
-at-line-start-requires c κs = search needs
-
 returns-2 : tie.Need-returns-2
 returns-2 c = search needless-at-start
 
 pub is-needless-spec : {M : Type 1} → statement M
-is-needless-spec = tie.close (tie.spec returns at-line-start-requires returns-2)
+is-needless-spec = tie.close (tie.spec (λ c. search needs) (λ c κs. search needs) returns-2)

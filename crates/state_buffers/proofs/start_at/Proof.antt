@@ -4,17 +4,8 @@ use Rattle.state_buffers.proofs.start_at.Statement.{statement}
 use Rattle.state_buffers.proofs.start_at.Tie as tie
 use Rattle.state_buffers.proofs.Captures.{start-there}
 
-mul-result : tie.Need-mul-result
-mul-result c = search needs
-
-shared-slice-read-result : tie.Need-shared-slice-read-result
-shared-slice-read-result c = search needs
-
-returns : tie.Need-returns
-returns c = search needs
-
 returns-2 : tie.Need-returns-2
 returns-2 c = search start-there
 
 pub start-at-spec : {M : Type 1} → statement M
-start-at-spec = tie.close (tie.spec mul-result shared-slice-read-result returns returns-2)
+start-at-spec = tie.close (tie.spec (λ c. search needs) (λ c. search needs) (λ c. search needs) returns-2)

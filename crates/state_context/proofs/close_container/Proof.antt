@@ -5,11 +5,8 @@ use Rattle.state_context.proofs.close_container.Tie as tie
 use Rattle.packed.proofs.fewer.Reads as fewer-reads
 use Rattle.state_context.proofs.Containers.{closes-container}
 
-fewer-requires : tie.Need-fewer-requires
-fewer-requires c κs = search needs
-
 returns : tie.Need-returns
 returns c = search closes-container
 
 pub close-container-spec : {M : Type 1} → statement M
-close-container-spec = tie.close (tie.spec fewer-requires returns)
+close-container-spec = tie.close (tie.spec (λ c κs. search needs) returns)

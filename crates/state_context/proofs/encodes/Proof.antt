@@ -5,11 +5,8 @@ use Rattle.state_context.proofs.encodes.Tie as tie
 use mathlib.Core.Path.{refl}
 use Rattle.machine.specs.Set.{encode}
 
-has-flag-requires : tie.Need-has-flag-requires
-has-flag-requires c κs = search needs
-
 returns : tie.Need-returns
 returns c = c .has-flag .ensures .tells-flag encode refl
 
 pub encodes-spec : {M : Type 1} → statement M
-encodes-spec = tie.close (tie.spec has-flag-requires returns)
+encodes-spec = tie.close (tie.spec (λ c κs. search needs) returns)

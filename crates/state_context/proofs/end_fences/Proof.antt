@@ -6,11 +6,8 @@ use mathlib.Core.Path.{refl}
 use mathlib.Core.Option.{none}
 use Rattle.state_context.proofs.Fences.{fenced}
 
-with-digit-requires : tie.Need-with-digit-requires
-with-digit-requires c κs = search needs
-
 returns : tie.Need-returns
 returns c = fenced none refl (c .with-digit .ensures)
 
 pub end-fences-spec : {M : Type 1} → statement M
-end-fences-spec = tie.close (tie.spec with-digit-requires returns)
+end-fences-spec = tie.close (tie.spec (λ c κs. search needs) returns)

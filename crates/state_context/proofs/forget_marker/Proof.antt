@@ -4,11 +4,8 @@ use Rattle.state_context.proofs.forget_marker.Statement.{statement}
 use Rattle.state_context.proofs.forget_marker.Tie as tie
 use Rattle.state_context.proofs.Awaited.{unmarked}
 
-with-digit-requires : tie.Need-with-digit-requires
-with-digit-requires c κs = search needs
-
 returns : tie.Need-returns
 returns c = search unmarked
 
 pub forget-marker-spec : {M : Type 1} → statement M
-forget-marker-spec = tie.close (tie.spec with-digit-requires returns)
+forget-marker-spec = tie.close (tie.spec (λ c κs. search needs) returns)

@@ -5,12 +5,6 @@ use Rattle.state_context.proofs.has_rank.Tie as tie
 use Rattle.state_context.specs.declared.Number.the-variants.{Unset}
 use Rattle.state_context.proofs.Awaited.{tells-rank, rank-known}
 
-enum-told : tie.Need-enum-told
-enum-told c = search needs
-
-enum-told-2 : tie.Need-enum-told-2
-enum-told-2 c = search needs
-
 returns : tie.Need-returns
 returns c = tells-rank Unset (search needs)
 
@@ -18,4 +12,4 @@ returns-2 : tie.Need-returns-2
 returns-2 c = search rank-known
 
 pub has-rank-spec : {M : Type 1} → statement M
-has-rank-spec = tie.close (tie.spec enum-told enum-told-2 returns returns-2)
+has-rank-spec = tie.close (tie.spec (λ c. search needs) (λ c. search needs) returns returns-2)

@@ -4,11 +4,8 @@ use Rattle.state_context.proofs.is_first_marker.Statement.{statement}
 use Rattle.state_context.proofs.is_first_marker.Tie as tie
 use Rattle.state_context.proofs.Awaited.{tells-marker}
 
-digit-requires : tie.Need-digit-requires
-digit-requires c κs = search needs
-
 returns : tie.Need-returns
 returns c = search tells-marker
 
 pub is-first-marker-spec : {M : Type 1} → statement M
-is-first-marker-spec = tie.close (tie.spec digit-requires returns)
+is-first-marker-spec = tie.close (tie.spec (λ c κs. search needs) returns)

@@ -5,11 +5,8 @@ use Rattle.state_context.proofs.is_head.Tie as tie
 use mathlib.Core.Path.{refl}
 use Rattle.machine.specs.Set.{head}
 
-has-flag-requires : tie.Need-has-flag-requires
-has-flag-requires c κs = search needs
-
 returns : tie.Need-returns
 returns c = c .has-flag .ensures .tells-flag head refl
 
 pub is-head-spec : {M : Type 1} → statement M
-is-head-spec = tie.close (tie.spec has-flag-requires returns)
+is-head-spec = tie.close (tie.spec (λ c κs. search needs) returns)

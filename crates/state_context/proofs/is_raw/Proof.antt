@@ -5,11 +5,8 @@ use Rattle.state_context.proofs.is_raw.Tie as tie
 use mathlib.Core.Path.{refl}
 use Rattle.machine.specs.Set.{raw}
 
-has-flag-requires : tie.Need-has-flag-requires
-has-flag-requires c κs = search needs
-
 returns : tie.Need-returns
 returns c = c .has-flag .ensures .tells-flag raw refl
 
 pub is-raw-spec : {M : Type 1} → statement M
-is-raw-spec = tie.close (tie.spec has-flag-requires returns)
+is-raw-spec = tie.close (tie.spec (λ c κs. search needs) returns)

@@ -4,11 +4,8 @@ use Rattle.state_context.proofs.new.Statement.{statement}
 use Rattle.state_context.proofs.new.Tie as tie
 use Rattle.state_context.proofs.Start.{begins-so}
 
-first-word-requires : tie.Need-first-word-requires
-first-word-requires c κs = search needs
-
 returns : tie.Need-returns
 returns c = search begins-so
 
 pub new-spec : {M : Type 1} → statement M
-new-spec = tie.close (tie.spec first-word-requires returns)
+new-spec = tie.close (tie.spec (λ c κs. search needs) returns)

@@ -10,24 +10,6 @@ returns c = search slice-back
 returns-2 : tie.Need-returns-2
 returns-2 c = search slice-out
 
-encodes-requires : tie.Need-encodes-requires
-encodes-requires c κs = search needs
-
-part-push-encoded-start : tie.Need-part-push-encoded-start
-part-push-encoded-start c = search needs
-
-part-push-encoded-end : tie.Need-part-push-encoded-end
-part-push-encoded-end c = search needs
-
-push-encoded-requires : tie.Need-push-encoded-requires
-push-encoded-requires c κs = search needs
-
-same-length : tie.Need-same-length
-same-length c = search needs
-
-same-length-2 : tie.Need-same-length-2
-same-length-2 c = search needs
-
 returns-3 : tie.Need-returns-3
 returns-3 c = search slices
 
@@ -37,10 +19,10 @@ push-slice-spec =
     (tie.spec
     returns
     returns-2
-    encodes-requires
-    part-push-encoded-start
-    part-push-encoded-end
-    push-encoded-requires
-    same-length
-    same-length-2
+    (λ c κs. search needs)
+    (λ c. search needs)
+    (λ c. search needs)
+    (λ c κs. search needs)
+    (λ c. search needs)
+    (λ c. search needs)
     returns-3)

@@ -4,17 +4,11 @@ use Rattle.state_context.proofs.set_first.Statement.{statement}
 use Rattle.state_context.proofs.set_first.Tie as tie
 use Rattle.state_context.proofs.Awaited.{first-yes, first-no}
 
-with-digit-requires : tie.Need-with-digit-requires
-with-digit-requires c κs = search needs
-
 returns : tie.Need-returns
 returns c = search first-yes
-
-with-digit-requires-2 : tie.Need-with-digit-requires-2
-with-digit-requires-2 c κs = search needs
 
 returns-2 : tie.Need-returns-2
 returns-2 c = search first-no
 
 pub set-first-spec : {M : Type 1} → statement M
-set-first-spec = tie.close (tie.spec with-digit-requires returns with-digit-requires-2 returns-2)
+set-first-spec = tie.close (tie.spec (λ c κs. search needs) returns (λ c κs. search needs) returns-2)

@@ -4,9 +4,6 @@ use Rattle.state_context.proofs.set_marker.Statement.{statement}
 use Rattle.state_context.proofs.set_marker.Tie as tie
 use Rattle.state_context.proofs.Awaited.{mark-small, marked}
 
-marker-digit-requires : tie.Need-marker-digit-requires
-marker-digit-requires c κs = search needs
-
 with-digit-requires : tie.Need-with-digit-requires
 with-digit-requires c κs = (search needs, mark-small (c .before .args .x) (c .marker-digit .ensures))
 
@@ -14,4 +11,4 @@ returns : tie.Need-returns
 returns c = marked _ (c .before .marker-digit .ensures) (c .with-digit .ensures)
 
 pub set-marker-spec : {M : Type 1} → statement M
-set-marker-spec = tie.close (tie.spec marker-digit-requires with-digit-requires returns)
+set-marker-spec = tie.close (tie.spec (λ c κs. search needs) with-digit-requires returns)

@@ -4,9 +4,6 @@ use Rattle.state_context.proofs.waiting_marker.Statement.{statement}
 use Rattle.state_context.proofs.waiting_marker.Tie as tie
 use Rattle.state_context.proofs.Awaited.{no-mark, named, decimal, hexadecimal}
 
-digit-requires : tie.Need-digit-requires
-digit-requires c κs = search needs
-
 returns : tie.Need-returns
 returns c = search no-mark
 
@@ -20,4 +17,4 @@ returns-4 : tie.Need-returns-4
 returns-4 c = search hexadecimal
 
 pub waiting-marker-spec : {M : Type 1} → statement M
-waiting-marker-spec = tie.close (tie.spec digit-requires returns returns-2 returns-3 returns-4)
+waiting-marker-spec = tie.close (tie.spec (λ c κs. search needs) returns returns-2 returns-3 returns-4)

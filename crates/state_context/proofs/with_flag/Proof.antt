@@ -4,17 +4,11 @@ use Rattle.state_context.proofs.with_flag.Statement.{statement}
 use Rattle.state_context.proofs.with_flag.Tie as tie
 use Rattle.state_context.proofs.Digits.{flag-on, flag-off}
 
-with-digit-requires : tie.Need-with-digit-requires
-with-digit-requires c κs = search needs
-
 returns : tie.Need-returns
 returns c = search flag-on
-
-with-digit-requires-2 : tie.Need-with-digit-requires-2
-with-digit-requires-2 c κs = search needs
 
 returns-2 : tie.Need-returns-2
 returns-2 c = search flag-off
 
 pub with-flag-spec : {M : Type 1} → statement M
-with-flag-spec = tie.close (tie.spec with-digit-requires returns with-digit-requires-2 returns-2)
+with-flag-spec = tie.close (tie.spec (λ c κs. search needs) returns (λ c κs. search needs) returns-2)

@@ -4,24 +4,6 @@ use borrow.Author.Needs.{needs}
 use Rattle.state_kept.proofs.find_label.Statement.{statement}
 use Rattle.state_kept.proofs.find_label.Tie as tie
 
-column-at-requires : tie.Need-column-at-requires
-column-at-requires c κs = search needs
-
-column-at-requires-2 : tie.Need-column-at-requires-2
-column-at-requires-2 c κs = search needs
-
-column-at-requires-3 : tie.Need-column-at-requires-3
-column-at-requires-3 c κs = search needs
-
-column-at-requires-4 : tie.Need-column-at-requires-4
-column-at-requires-4 c κs = search needs
-
-part-requires : tie.Need-part-requires
-part-requires c κs = search needs
-
-find-requires : tie.Need-find-requires
-find-requires c κs = search needs
-
 returns : tie.Need-returns
 returns c =
     let l = c .before in
@@ -34,10 +16,10 @@ pub find-label-spec : {M : Type 1} → statement M
 find-label-spec =
     tie.close
     (tie.spec
-    column-at-requires
-    column-at-requires-2
-    column-at-requires-3
-    column-at-requires-4
-    part-requires
-    find-requires
+    (λ c κs. search needs)
+    (λ c κs. search needs)
+    (λ c κs. search needs)
+    (λ c κs. search needs)
+    (λ c κs. search needs)
+    (λ c κs. search needs)
     returns)

@@ -12,29 +12,12 @@ returns c = search opens-short
 returns-2 : tie.Need-returns-2
 returns-2 c = search opens-full
 
-mul-labels : tie.Need-mul-labels
-mul-labels c = search needs
-
-slice-write-labels : tie.Need-slice-write-labels
-slice-write-labels c = search needs
-
-add-labels : tie.Need-add-labels
-add-labels c = search needs
-
-mul-labels-2 : tie.Need-mul-labels-2
-mul-labels-2 c = search needs
-
 slice-write-labels-2 : tie.Need-slice-write-labels-2
 slice-write-labels-2 c = simp length-set (omega arith)
-
-add-r : tie.Need-add-r
-add-r c = search needs
-
-same-length : tie.Need-same-length
-same-length c = search needs
 
 returns-3 : tie.Need-returns-3
 returns-3 c = search opens-label
 
 pub open-label-spec : {M : Type 1} → statement M
-open-label-spec = tie.close (tie.spec returns returns-2 mul-labels slice-write-labels add-labels mul-labels-2 slice-write-labels-2 add-r same-length returns-3)
+open-label-spec = tie.close (tie.spec returns returns-2 (λ c. search needs) (λ c. search needs) (λ c. search needs) (λ c. search needs)
+    slice-write-labels-2 (λ c. search needs) (λ c. search needs) returns-3)

@@ -7,17 +7,8 @@ use Rattle.state_media.proofs.length_of.Reads as length-of-reads
 use Rattle.packed.proofs.fewer.Reads as fewer-reads
 use Rattle.state_media.proofs.Newest.{closes}
 
-fewer-requires : tie.Need-fewer-requires
-fewer-requires c κs = search needs
-
-bare-requires : tie.Need-bare-requires
-bare-requires c κs = search needs
-
-length-of-requires : tie.Need-length-of-requires
-length-of-requires c κs = search needs
-
 returns : tie.Need-returns
 returns c = search closes
 
 pub close-media-spec : {M : Type 1} → statement M
-close-media-spec = tie.close (tie.spec fewer-requires bare-requires length-of-requires returns)
+close-media-spec = tie.close (tie.spec (λ c κs. search needs) (λ c κs. search needs) (λ c κs. search needs) returns)

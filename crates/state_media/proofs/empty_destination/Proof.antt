@@ -5,11 +5,8 @@ use Rattle.state_media.proofs.empty_destination.Tie as tie
 use Rattle.state_media.proofs.with_destination.Reads as with-destination-reads
 use Rattle.state_media.proofs.Known.{emptied}
 
-with-destination-requires : tie.Need-with-destination-requires
-with-destination-requires c κs = search needs
-
 returns : tie.Need-returns
 returns c = search emptied
 
 pub empty-destination-spec : {M : Type 1} → statement M
-empty-destination-spec = tie.close (tie.spec with-destination-requires returns)
+empty-destination-spec = tie.close (tie.spec (λ c κs. search needs) returns)

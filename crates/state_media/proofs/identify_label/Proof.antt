@@ -5,11 +5,8 @@ use Rattle.state_media.proofs.identify_label.Tie as tie
 use Rattle.state_media.proofs.with_label_id.Reads as with-label-id-reads
 use Rattle.state_media.proofs.Known.{labelled}
 
-with-label-id-requires : tie.Need-with-label-id-requires
-with-label-id-requires c κs = search needs
-
 returns : tie.Need-returns
 returns c = search labelled
 
 pub identify-label-spec : {M : Type 1} → statement M
-identify-label-spec = tie.close (tie.spec with-label-id-requires returns)
+identify-label-spec = tie.close (tie.spec (λ c κs. search needs) returns)

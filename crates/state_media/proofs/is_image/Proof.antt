@@ -5,11 +5,8 @@ use Rattle.state_media.proofs.is_image.Tie as tie
 use Rattle.packed.proofs.newest.Reads as newest-reads
 use Rattle.state_media.proofs.Newest.{image-is}
 
-newest-requires : tie.Need-newest-requires
-newest-requires c κs = search needs
-
 returns : tie.Need-returns
 returns c = search image-is
 
 pub is-image-spec : {M : Type 1} → statement M
-is-image-spec = tie.close (tie.spec newest-requires returns)
+is-image-spec = tie.close (tie.spec (λ c κs. search needs) returns)

@@ -5,11 +5,8 @@ use Rattle.state_media.proofs.lead_to.Tie as tie
 use Rattle.state_media.proofs.with_destination.Reads as with-destination-reads
 use Rattle.state_media.proofs.Known.{led}
 
-with-destination-requires : tie.Need-with-destination-requires
-with-destination-requires c κs = search needs
-
 returns : tie.Need-returns
 returns c = search led
 
 pub lead-to-spec : {M : Type 1} → statement M
-lead-to-spec = tie.close (tie.spec with-destination-requires returns)
+lead-to-spec = tie.close (tie.spec (λ c κs. search needs) returns)

@@ -6,18 +6,9 @@ use Rattle.state_media.proofs.with_destination.Reads as with-destinatio
 use Rattle.regions.proofs.carry.Reads as carry-reads
 use Rattle.state_media.proofs.Stored.{stores-destination}
 
-carry-requires : tie.Need-carry-requires
-carry-requires c κs = search needs
-
-with-destination-requires : tie.Need-with-destination-requires
-with-destination-requires c κs = search needs
-
-same-length : tie.Need-same-length
-same-length c = search needs
-
 returns : tie.Need-returns
 returns c = search stores-destination
 
 pub store-destination-spec : {M : Type 1} → statement M
 store-destination-spec =
-    tie.close (tie.spec carry-requires with-destination-requires same-length returns)
+    tie.close (tie.spec (λ c κs. search needs) (λ c κs. search needs) (λ c. search needs) returns)

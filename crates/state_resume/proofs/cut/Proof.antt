@@ -7,23 +7,11 @@ use Rattle.state_resume.proofs.Trimmed.{cut-none, cut-first, cut-last, 
 returns : tie.Need-returns
 returns c = search cut-none
 
-shared-slice-read-if2 : tie.Need-shared-slice-read-if2
-shared-slice-read-if2 c = search needs
-
 returns-2 : tie.Need-returns-2
 returns-2 c = search cut-first
 
-sub-if3 : tie.Need-sub-if3
-sub-if3 c = search needs
-
-shared-slice-read-if3 : tie.Need-shared-slice-read-if3
-shared-slice-read-if3 c = search needs
-
 returns-3 : tie.Need-returns-3
 returns-3 c = search cut-last
-
-all-spaces-requires : tie.Need-all-spaces-requires
-all-spaces-requires c κs = search needs
 
 returns-4 : tie.Need-returns-4
 returns-4 c = search cut-all
@@ -36,11 +24,11 @@ cut-spec =
     tie.close
     (tie.spec
     returns
-    shared-slice-read-if2
+    (λ c. search needs)
     returns-2
-    sub-if3
-    shared-slice-read-if3
+    (λ c. search needs)
+    (λ c. search needs)
     returns-3
-    all-spaces-requires
+    (λ c κs. search needs)
     returns-4
     returns-5)

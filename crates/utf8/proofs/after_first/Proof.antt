@@ -14,20 +14,11 @@ returns-2 c = low-wrong _ (omega arith) (omega arith)
 returns-3 : tie.Need-returns-3
 returns-3 c = high-wrong _ (omega arith)
 
-char-len-requires : tie.Need-char-len-requires
-char-len-requires c κs = search needs
-
 sub-t4 : tie.Need-sub-t4
 sub-t4 c = some _ _ (c .char-len .ensures) (omega arith) (omega arith)
 
 cast-t5 : tie.Need-cast-t5
 cast-t5 c = search few-more
-
-second-from-requires : tie.Need-second-from-requires
-second-from-requires c κs = search needs
-
-second-to-requires : tie.Need-second-to-requires
-second-to-requires c κs = search needs
 
 returns-4 : tie.Need-returns-4
 returns-4 c = search more-due
@@ -39,9 +30,9 @@ after-first-spec =
     returns
     returns-2
     returns-3
-    char-len-requires
+    (λ c κs. search needs)
     sub-t4
     cast-t5
-    second-from-requires
-    second-to-requires
+    (λ c κs. search needs)
+    (λ c κs. search needs)
     returns-4)

@@ -5,9 +5,6 @@ use borrow.Author.Needs.{needs}
 use Rattle.utf8.proofs.char_len.Statement.{statement}
 use Rattle.utf8.proofs.char_len.Tie as tie
 
-sub-ones : tie.Need-sub-ones
-sub-ones c = search needs
-
 returns : tie.Need-returns
 returns c = search ones-none
 
@@ -17,11 +14,8 @@ returns-2 c = search ones-one
 returns-3 : tie.Need-returns-3
 returns-3 c = ones-many _ (omega arith) (omega arith)
 
-cast-result : tie.Need-cast-result
-cast-result c = search needs
-
 returns-4 : tie.Need-returns-4
 returns-4 c = search ones-few
 
 pub char-len-spec : {M : Type 1} → statement M
-char-len-spec = tie.close (tie.spec sub-ones returns returns-2 returns-3 cast-result returns-4)
+char-len-spec = tie.close (tie.spec (λ c. search needs) returns returns-2 returns-3 (λ c. search needs) returns-4)

@@ -8,9 +8,6 @@ use Rattle.utf8.proofs.is_inside.Tie as tie
 returns : tie.Need-returns
 returns c = past-end _ _ (omega arith)
 
-shared-slice-read-b : tie.Need-shared-slice-read-b
-shared-slice-read-b c = search needs
-
 returns-2 : tie.Need-returns-2
 returns-2 c = search starts-low
 
@@ -18,4 +15,4 @@ returns-3 : tie.Need-returns-3
 returns-3 c = search by-top
 
 pub is-inside-spec : {M : Type 1} → statement M
-is-inside-spec = tie.close (tie.spec returns shared-slice-read-b returns-2 returns-3)
+is-inside-spec = tie.close (tie.spec returns (λ c. search needs) returns-2 returns-3)

@@ -15,50 +15,17 @@ Inv-loop s i₀ due₀ i due = isWhole (run due (drop i s)) ≡ isUtf8 s
 abbrev μ-loop : tie.MeasureT-loop
 μ-loop s i₀ due₀ i due = length s - i
 
-ascii-to-requires : tie.Need-ascii-to-requires Inv-loop μ-loop
-ascii-to-requires c κs = search needs
-
 loop-holds : tie.Need-loop-holds Inv-loop μ-loop
 loop-holds c = search begun
-
-shared-slice-read-after : tie.Need-shared-slice-read-after Inv-loop μ-loop
-shared-slice-read-after c = search needs
-
-after-requires : tie.Need-after-requires Inv-loop μ-loop
-after-requires c κs = search needs
-
-add-i : tie.Need-add-i Inv-loop μ-loop
-add-i c = search needs
-
-enum-told : tie.Need-enum-told Inv-loop μ-loop
-enum-told c = search needs
-
-ascii-to-requires-2 : tie.Need-ascii-to-requires-2 Inv-loop μ-loop
-ascii-to-requires-2 c κs = search needs
-
-loop-less : tie.Need-loop-less Inv-loop μ-loop
-loop-less c = search needs
 
 loop-again : tie.Need-loop-again Inv-loop μ-loop
 loop-again c = search skipped
 
-enum-told-2 : tie.Need-enum-told-2 Inv-loop μ-loop
-enum-told-2 c = search needs
-
-loop-less-2 : tie.Need-loop-less-2 Inv-loop μ-loop
-loop-less-2 c = search needs
-
 loop-again-2 : tie.Need-loop-again-2 Inv-loop μ-loop
 loop-again-2 c = search on
 
-enum-told-3 : tie.Need-enum-told-3 Inv-loop μ-loop
-enum-told-3 c = search needs
-
 returns : tie.Need-returns Inv-loop μ-loop
 returns c = search wrong
-
-is-whole-requires : tie.Need-is-whole-requires Inv-loop μ-loop
-is-whole-requires c κs = search needs
 
 returns-2 : tie.Need-returns-2 Inv-loop μ-loop
 returns-2 c = search ended
@@ -69,19 +36,19 @@ is-utf8-spec =
     (tie.spec
     Inv-loop
     μ-loop
-    ascii-to-requires
+    (λ c κs. search needs)
     loop-holds
-    shared-slice-read-after
-    after-requires
-    add-i
-    enum-told
-    ascii-to-requires-2
-    loop-less
+    (λ c. search needs)
+    (λ c κs. search needs)
+    (λ c. search needs)
+    (λ c. search needs)
+    (λ c κs. search needs)
+    (λ c. search needs)
     loop-again
-    enum-told-2
-    loop-less-2
+    (λ c. search needs)
+    (λ c. search needs)
     loop-again-2
-    enum-told-3
+    (λ c. search needs)
     returns
-    is-whole-requires
+    (λ c κs. search needs)
     returns-2)

@@ -17,21 +17,6 @@ abbrev μ-loop : tie.MeasureT-loop
 loop-holds : tie.Need-loop-holds Inv-loop μ-loop
 loop-holds c = (search needs, search end-start)
 
-sub-is-eol : tie.Need-sub-is-eol Inv-loop μ-loop
-sub-is-eol c = search needs
-
-shared-slice-read-is-eol : tie.Need-shared-slice-read-is-eol Inv-loop μ-loop
-shared-slice-read-is-eol c = search needs
-
-is-eol-requires : tie.Need-is-eol-requires Inv-loop μ-loop
-is-eol-requires c κs = search needs
-
-sub-i : tie.Need-sub-i Inv-loop μ-loop
-sub-i c = search needs
-
-loop-less : tie.Need-loop-less Inv-loop μ-loop
-loop-less c = search needs
-
 loop-again : tie.Need-loop-again Inv-loop μ-loop
 loop-again c = (search needs, search end-eol)
 
@@ -48,11 +33,11 @@ body-end-spec =
     Inv-loop
     μ-loop
     loop-holds
-    sub-is-eol
-    shared-slice-read-is-eol
-    is-eol-requires
-    sub-i
-    loop-less
+    (λ c. search needs)
+    (λ c. search needs)
+    (λ c κs. search needs)
+    (λ c. search needs)
+    (λ c. search needs)
     loop-again
     returns
     returns-2)

@@ -4,18 +4,6 @@ use borrow.Author.Needs.{needs}
 use Rattle.write_footnote.proofs.byte_at.Statement.{statement}
 use Rattle.write_footnote.proofs.byte_at.Tie as tie
 
-next-requires : tie.Need-next-requires
-next-requires c κs = search needs
-
-enum-known-b : tie.Need-enum-known-b
-enum-known-b c = search needs
-
-to-lower-requires : tie.Need-to-lower-requires
-to-lower-requires c κs = search needs
-
-enum-told : tie.Need-enum-told
-enum-told c = search needs
-
 returns : tie.Need-returns
 returns c = search byte-there
 
@@ -24,4 +12,4 @@ returns-2 c = search byte-missing
 
 pub byte-at-spec : {M : Type 1} → statement M
 byte-at-spec =
-    tie.close (tie.spec next-requires enum-known-b to-lower-requires enum-told returns returns-2)
+    tie.close (tie.spec (λ c κs. search needs) (λ c. search needs) (λ c κs. search needs) (λ c. search needs) returns returns-2)

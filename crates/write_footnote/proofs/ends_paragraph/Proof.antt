@@ -4,14 +4,8 @@ use borrow.Author.Needs.{needs}
 use Rattle.write_footnote.proofs.ends_paragraph.Statement.{statement}
 use Rattle.write_footnote.proofs.ends_paragraph.Tie as tie
 
-body-end-requires : tie.Need-body-end-requires
-body-end-requires c κs = search needs
-
 returns : tie.Need-returns
 returns c = search too-short
-
-sub-has-close : tie.Need-sub-has-close
-sub-has-close c = search needs
 
 has-close-requires : tie.Need-has-close-requires
 has-close-requires c κs = search close-inside
@@ -21,4 +15,4 @@ returns-2 c = search by-close
 
 pub ends-paragraph-spec : {M : Type 1} → statement M
 ends-paragraph-spec =
-    tie.close (tie.spec body-end-requires returns sub-has-close has-close-requires returns-2)
+    tie.close (tie.spec (λ c κs. search needs) returns (λ c. search needs) has-close-requires returns-2)

@@ -7,18 +7,9 @@ use Rattle.write_footnote.proofs.put_again.Tie as tie
 returns : tie.Need-returns
 returns c = search first-time
 
-put-requires : tie.Need-put-requires
-put-requires c κs = search needs
-
-put-decimal-requires : tie.Need-put-decimal-requires
-put-decimal-requires c κs = search needs
-
-same-length : tie.Need-same-length
-same-length c = search needs
-
 returns-2 : tie.Need-returns-2
 returns-2 c = search again
 
 pub put-again-spec : {M : Type 1} → statement M
 put-again-spec =
-    tie.close (tie.spec returns put-requires put-decimal-requires same-length returns-2)
+    tie.close (tie.spec returns (λ c κs. search needs) (λ c κs. search needs) (λ c. search needs) returns-2)

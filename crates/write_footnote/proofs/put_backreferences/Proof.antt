@@ -18,15 +18,6 @@ abbrev μ-loop : tie.MeasureT-loop
 loop-holds : tie.Need-loop-holds Inv-loop μ-loop
 loop-holds c = (search needs, search no-reference)
 
-add-i : tie.Need-add-i Inv-loop μ-loop
-add-i c = search needs
-
-put-next-requires : tie.Need-put-next-requires Inv-loop μ-loop
-put-next-requires c κs = search needs
-
-loop-less : tie.Need-loop-less Inv-loop μ-loop
-loop-less c = search needs
-
 loop-again : tie.Need-loop-again Inv-loop μ-loop
 loop-again c = (search needs, search reference-more)
 
@@ -43,9 +34,9 @@ put-backreferences-spec =
     Inv-loop
     μ-loop
     loop-holds
-    add-i
-    put-next-requires
-    loop-less
+    (λ c. search needs)
+    (λ c κs. search needs)
+    (λ c. search needs)
     loop-again
     same-length
     returns)

@@ -7,18 +7,6 @@ use Rattle.write_held.proofs.Showing.{shows-far, shows-piece}
 returns : tie.Need-returns
 returns c = shows-far (search needs)
 
-add-push-part : tie.Need-add-push-part
-add-push-part c = search needs
-
-push-part-requires : tie.Need-push-part-requires
-push-part-requires c κs = search needs
-
-same-length : tie.Need-same-length
-same-length c = search needs
-
-same-length-2 : tie.Need-same-length-2
-same-length-2 c = search needs
-
 returns-2 : tie.Need-returns-2
 returns-2 c =
     let c1 = c .before .before .before .before in
@@ -27,4 +15,4 @@ returns-2 c =
 pub push-piece-spec : {M : Type 1} → statement M
 push-piece-spec =
     tie.close
-    (tie.spec returns add-push-part push-part-requires same-length same-length-2 returns-2)
+    (tie.spec returns (λ c. search needs) (λ c κs. search needs) (λ c. search needs) (λ c. search needs) returns-2)

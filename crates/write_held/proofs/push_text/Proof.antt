@@ -8,24 +8,6 @@ use native.Mathlib.Omega.{arith}
 returns : tie.Need-returns
 returns c = shows-short (search needs)
 
-sub-push : tie.Need-sub-push
-sub-push c = search needs
-
-part-push-start : tie.Need-part-push-start
-part-push-start c = search needs
-
-part-push-end : tie.Need-part-push-end
-part-push-end c = search needs
-
-push-requires : tie.Need-push-requires
-push-requires c κs = search needs
-
-same-length : tie.Need-same-length
-same-length c = search needs
-
-same-length-2 : tie.Need-same-length-2
-same-length-2 c = search needs
-
 returns-2 : tie.Need-returns-2
 returns-2 c =
     let c1 = c .before .before .before .before in
@@ -36,10 +18,10 @@ push-text-spec =
     tie.close
     (tie.spec
     returns
-    sub-push
-    part-push-start
-    part-push-end
-    push-requires
-    same-length
-    same-length-2
+    (λ c. search needs)
+    (λ c. search needs)
+    (λ c. search needs)
+    (λ c κs. search needs)
+    (λ c. search needs)
+    (λ c. search needs)
     returns-2)

@@ -5,9 +5,6 @@ use borrow.Author.Needs.{needs}
 use Rattle.write_held.proofs.push_url_part.Statement.{statement}
 use Rattle.write_held.proofs.push_url_part.Tie as tie
 
-is-part-requires : tie.Need-is-part-requires
-is-part-requires c κs = search needs
-
 returns : tie.Need-returns
 returns c = search no-url
 
@@ -17,32 +14,14 @@ returns-2 c = search too-long
 add-put-url : tie.Need-add-put-url
 add-put-url c = let k = c .before .before .before .before in omega (arith, part-high _ _ _ (k .before .is-part .ensures) (k .if1 .left))
 
-sub-put-url : tie.Need-sub-put-url
-sub-put-url c = search needs
-
-part-put-url-start : tie.Need-part-put-url-start
-part-put-url-start c = search needs
-
 part-put-url-end : tie.Need-part-put-url-end
 part-put-url-end c = search (part-high, needs)
-
-put-url-requires : tie.Need-put-url-requires
-put-url-requires c κs = search needs
-
-same-length : tie.Need-same-length
-same-length c = search needs
-
-same-length-2 : tie.Need-same-length-2
-same-length-2 c = search needs
 
 returns-3 : tie.Need-returns-3
 returns-3 c = search url-to-page
 
 put-url-requires-2 : tie.Need-put-url-requires-2
 put-url-requires-2 c κs = search part-of
-
-same-length-3 : tie.Need-same-length-3
-same-length-3 c = search needs
 
 returns-4 : tie.Need-returns-4
 returns-4 c = search url-to-capture
@@ -51,17 +30,17 @@ pub push-url-part-spec : {M : Type 1} → statement M
 push-url-part-spec =
     tie.close
     (tie.spec
-    is-part-requires
+    (λ c κs. search needs)
     returns
     returns-2
     add-put-url
-    sub-put-url
-    part-put-url-start
+    (λ c. search needs)
+    (λ c. search needs)
     part-put-url-end
-    put-url-requires
-    same-length
-    same-length-2
+    (λ c κs. search needs)
+    (λ c. search needs)
+    (λ c. search needs)
     returns-3
     put-url-requires-2
-    same-length-3
+    (λ c. search needs)
     returns-4)

@@ -7,18 +7,6 @@ use Rattle.write_held.proofs.Showing.{shows-far, shows-url}
 returns : tie.Need-returns
 returns c = shows-far (search needs)
 
-add-push-url-part : tie.Need-add-push-url-part
-add-push-url-part c = search needs
-
-push-url-part-requires : tie.Need-push-url-part-requires
-push-url-part-requires c κs = search needs
-
-same-length : tie.Need-same-length
-same-length c = search needs
-
-same-length-2 : tie.Need-same-length-2
-same-length-2 c = search needs
-
 returns-2 : tie.Need-returns-2
 returns-2 c =
     let c1 = c .before .before .before .before in
@@ -27,4 +15,4 @@ returns-2 c =
 pub push-url-piece-spec : {M : Type 1} → statement M
 push-url-piece-spec =
     tie.close
-    (tie.spec returns add-push-url-part push-url-part-requires same-length same-length-2 returns-2)
+    (tie.spec returns (λ c. search needs) (λ c κs. search needs) (λ c. search needs) (λ c. search needs) returns-2)

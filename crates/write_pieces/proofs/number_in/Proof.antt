@@ -23,9 +23,6 @@ returns-2 c = search too-many
 loop-holds : tie.Need-loop-holds Inv-loop μ-loop
 loop-holds c = search (all-left, needs)
 
-shared-slice-read-b : tie.Need-shared-slice-read-b Inv-loop μ-loop
-shared-slice-read-b c = search needs
-
 returns-3 : tie.Need-returns-3 Inv-loop μ-loop
 returns-3 c = search below-digits
 
@@ -35,17 +32,8 @@ returns-4 c = search above-digits
 mul-n : tie.Need-mul-n Inv-loop μ-loop
 mul-n c = search product-fits
 
-cast-n : tie.Need-cast-n Inv-loop μ-loop
-cast-n c = search needs
-
 add-n : tie.Need-add-n Inv-loop μ-loop
 add-n c = search sum-fits
-
-add-i : tie.Need-add-i Inv-loop μ-loop
-add-i c = search needs
-
-loop-less : tie.Need-loop-less Inv-loop μ-loop
-loop-less c = search needs
 
 loop-again : tie.Need-loop-again Inv-loop μ-loop
 loop-again c = search (next-digit, grows)
@@ -62,13 +50,13 @@ number-in-spec =
     returns
     returns-2
     loop-holds
-    shared-slice-read-b
+    (λ c. search needs)
     returns-3
     returns-4
     mul-n
-    cast-n
+    (λ c. search needs)
     add-n
-    add-i
-    loop-less
+    (λ c. search needs)
+    (λ c. search needs)
     loop-again
     returns-5)

@@ -4,20 +4,8 @@ use borrow.Author.Needs.{needs}
 use Rattle.write_pieces.proofs.push_decimal.Statement.{statement}
 use Rattle.write_pieces.proofs.push_decimal.Tie as tie
 
-put-decimal-requires : tie.Need-put-decimal-requires
-put-decimal-requires c κs = search needs
-
-same-length : tie.Need-same-length
-same-length c = search needs
-
 returns : tie.Need-returns
 returns c = search push-page
-
-put-decimal-requires-2 : tie.Need-put-decimal-requires-2
-put-decimal-requires-2 c κs = search needs
-
-same-length-2 : tie.Need-same-length-2
-same-length-2 c = search needs
 
 returns-2 : tie.Need-returns-2
 returns-2 c = search push-capture
@@ -26,9 +14,9 @@ pub push-decimal-spec : {M : Type 1} → statement M
 push-decimal-spec =
     tie.close
     (tie.spec
-    put-decimal-requires
-    same-length
+    (λ c κs. search needs)
+    (λ c. search needs)
     returns
-    put-decimal-requires-2
-    same-length-2
+    (λ c κs. search needs)
+    (λ c. search needs)
     returns-2)

@@ -4,21 +4,6 @@ use borrow.Author.Needs.{needs}
 use Rattle.write_pieces.proofs.put_start.Statement.{statement}
 use Rattle.write_pieces.proofs.put_start.Tie as tie
 
-number-in-requires : tie.Need-number-in-requires
-number-in-requires c κs = search needs
-
-enum-known-n : tie.Need-enum-known-n
-enum-known-n c = search needs
-
-put-start-number-requires : tie.Need-put-start-number-requires
-put-start-number-requires c κs = search needs
-
-enum-told : tie.Need-enum-told
-enum-told c = search needs
-
-same-length : tie.Need-same-length
-same-length c = search needs
-
 returns : tie.Need-returns
 returns c = search starts
 
@@ -29,10 +14,10 @@ pub put-start-spec : {M : Type 1} → statement M
 put-start-spec =
     tie.close
     (tie.spec
-    number-in-requires
-    enum-known-n
-    put-start-number-requires
-    enum-told
-    same-length
+    (λ c κs. search needs)
+    (λ c. search needs)
+    (λ c κs. search needs)
+    (λ c. search needs)
+    (λ c. search needs)
     returns
     returns-2)

@@ -4,22 +4,10 @@ use borrow.Author.Needs.{needs}
 use Rattle.write_section.proofs.put_behind.Statement.{statement}
 use Rattle.write_section.proofs.put_behind.Tie as tie
 
-put-all-requires : tie.Need-put-all-requires
-put-all-requires c κs = search needs
-
-end-line-requires : tie.Need-end-line-requires
-end-line-requires c κs = search needs
-
-put-backreferences-requires : tie.Need-put-backreferences-requires
-put-backreferences-requires c κs = search needs
-
-same-length : tie.Need-same-length
-same-length c = search needs
-
 returns : tie.Need-returns
 returns c = search behind-put
 
 pub put-behind-spec : {M : Type 1} → statement M
 put-behind-spec =
     tie.close
-    (tie.spec put-all-requires end-line-requires put-backreferences-requires same-length returns)
+    (tie.spec (λ c κs. search needs) (λ c κs. search needs) (λ c κs. search needs) (λ c. search needs) returns)

@@ -7,17 +7,8 @@ use Rattle.event.proofs.Event.alignment.Tie as tie
 returns : tie.Need-returns
 returns c = search (past-extra, needs)
 
-mul-result : tie.Need-mul-result
-mul-result c = search needs
-
-add-result : tie.Need-add-result
-add-result c = search needs
-
-shr-result : tie.Need-shr-result
-shr-result c = search needs
-
 returns-2 : tie.Need-returns-2
 returns-2 c = search masked-alignment
 
 pub alignment-spec : {M : Type 1} → statement M
-alignment-spec = tie.close (tie.spec returns mul-result add-result shr-result returns-2)
+alignment-spec = tie.close (tie.spec returns (λ c. search needs) (λ c. search needs) (λ c. search needs) returns-2)
