@@ -12,11 +12,11 @@ use Rattle.machine.specs.Totals.{held, kept}
 use Rattle.regions.specs.Regions.{regionAt}
 use Rattle.normalize_identifier.specs.Search as Search
 use Rattle.signature.specs.Signed.{Signs}
-use Rattle.state_kept.specs.declared.Kept.{Kept}
-use Rattle.state_kept.specs.Kept.{Labels}
+use Rattle.state_kept.specs.Kept.{nothingKept, Labels}
+use Rattle.state_media.specs.Links.{noMedia}
 use Rattle.state_context.specs.declared.Context.{Context}
 use Rattle.state_context.specs.Rel as Rel
-use Rattle.run_to_html.specs.Private.{noMedia, Begun}
+use Rattle.run_to_html.specs.Private.{Begun}
 
 region-long : (base : ℕ) (w : List ℕ) → length w ≡ 49152 → base + 16384 ≤ 49152 → length (regionAt base w) ≡ 16384
 region-long base w l h = simp (length-take, length-drop) (omega arith)
@@ -31,7 +31,7 @@ no-signs firsts seconds = record { signs = λ k h. absurd (not-suc-le-zero h) }
 no-row : {A : Type 0} (k : ℕ) (a : A) → getElem? [] k ≡ some a → ⊥
 no-row k a p = let z : _≡_ {A = ℕ} 0 1 = cc in omega arith
 
-pub begun : {fixed : Fixed} {c : Context} → Rel.Begun fixed c → Begun fixed (record { context = c; links = noMedia; kept = record { end = 0; definitions = 0; footnotes = 0; calls = 0; labels = 0 } })
+pub begun : {fixed : Fixed} {c : Context} → Rel.Begun fixed c → Begun fixed (record { context = c; links = noMedia; kept = nothingKept })
 unfolding start held kept
 begun k =
     record {

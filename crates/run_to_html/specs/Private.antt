@@ -14,10 +14,6 @@ use Rattle.machine.specs.Turn.{Turn}
 use Rattle.machine_bounded.specs.Within.{Goes}
 use Rattle.machine_clean.specs.Clean.{Clean}
 use Rattle.machine_clean.specs.Section.{Called}
-use Rattle.state_media.specs.declared.Links.{Links}
-use Rattle.state_media.specs.declared.Label.the-variants as L
-use Rattle.state_media.specs.declared.Text.the-variants as T
-use Rattle.state_media.specs.declared.Destination.the-variants as D
 use Rattle.state_kept.specs.Kept.{Long}
 use Rattle.state_whole.specs.declared.Whole.{Whole}
 use Rattle.state_whole.specs.Whole.{World, Built}
@@ -26,15 +22,6 @@ use Rattle.run_next.specs.Reach.{run, Stands}
 use Rattle.run_answer.specs.declared.Rendered.{Rendered}
 use Rattle.run_answer.specs.declared.Rendered.the-variants.{WorkFull, PageFull}
 use Rattle.run_to_html.specs.Renders.{Answers}
-
-abbrev pub noMedia : Links
-noMedia =
-    record {
-      images = record { bits = 0; count = 0 };
-      media = record { «label_id» = L.Unset; label = T.Unset; «reference_id» = L.Unset; destination = D.Nowhere; title = T.Unset };
-      end = 0;
-      setext = T.Unset;
-    }
 
 abbrev pub overOf : ℕ → EventIndex → Rendered
 overOf number place = if eqb number 8 then WorkFull place else PageFull place

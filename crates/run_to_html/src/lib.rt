@@ -5,52 +5,20 @@ ghost use lib.ListN.{length};
 ghost use Rattle.state_kept.specs.Kept.{tables};
 ghost use Rattle.dispatch_turns.specs.Loud.{world};
 ghost use Rattle.run_to_html.specs.Renders.{Renders};
-ghost use Rattle.run_to_html.specs.Private.{noMedia, Begun, Finishes, FinishesAll, overOf};
+ghost use Rattle.run_to_html.specs.Private.{Begun, Finishes, FinishesAll, overOf};
 use event::EventIndex;
 use machine::Fixed;
 use machine::Options;
-use packed::Tight;
 use run_answer::Rendered;
 use run_pass::Passed;
-use state_kept::Kept;
-use state_media::Destination;
-use state_media::Label;
-use state_media::Links;
-use state_media::Media;
-use state_media::Text;
 use state_whole::Whole;
-
-fn no_media() -> Links
-    ensures { λ r. ⌜ r ≡ noMedia ⌝ }
-{
-    let images = Tight { bits: 0, count: 0 };
-    let media = Media {
-        label_id: Label::Unset,
-        label: Text::Unset,
-        reference_id: Label::Unset,
-        destination: Destination::Nowhere,
-        title: Text::Unset,
-    };
-    Links {
-        images,
-        media,
-        end: 0,
-        setext: Text::Unset,
-    }
-}
 
 // Before the first event.
 fn begin(fixed: Fixed) -> Whole
     ensures { λ r. ⌜ Begun fixed r ⌝ }
 {
-    let kept = Kept {
-        end: 0,
-        definitions: 0,
-        footnotes: 0,
-        calls: 0,
-        labels: 0,
-    };
-    let links = no_media();
+    let kept = state_kept::new();
+    let links = state_media::new();
     Whole {
         context: state_context::new(fixed),
         links,

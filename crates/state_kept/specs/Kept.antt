@@ -14,6 +14,10 @@ use Rattle.machine.specs.Section.{footnoteLabels}
 use Rattle.machine.specs.Totals.{kept}
 use Rattle.state_kept.specs.declared.Kept.{Kept}
 
+-- before the first event
+abbrev pub nothingKept : Kept
+nothingKept = record { end = 0; definitions = 0; footnotes = 0; calls = 0; labels = 0 }
+
 -- ---- tables of words: columns one behind the other, n rows each
 
 abbrev pub column : (n k : ℕ) → List ℕ → List ℕ

@@ -3,7 +3,7 @@
 ghost use mathlib.Core.Path.{_≡_};
 ghost use mathlib.Core.List.{[], _∷_};
 ghost use lib.ListN.{take, drop, getD};
-ghost use Rattle.state_kept.specs.Kept.{column};
+ghost use Rattle.state_kept.specs.Kept.{nothingKept, column};
 ghost use Rattle.state_kept.specs.Contracts.{OpensLabel, FindsCall, FindsDefinition, FindsFootnote, CountsCall, TellsTimes, KeepsFootnote, KeepsDefinition};
 ghost use Rattle.state_kept.specs.Private.{SetsRow, FindsLabel, CarriesTitle};
 use normalize_identifier::Found;
@@ -17,6 +17,19 @@ pub struct Kept {
     pub calls: usize,
     // of open footnotes
     pub labels: usize,
+}
+
+// Before the first event.
+pub fn new() -> Kept
+    ensures { λ r. ⌜ r ≡ nothingKept ⌝ }
+{
+    Kept {
+        end: 0,
+        definitions: 0,
+        footnotes: 0,
+        calls: 0,
+        labels: 0,
+    }
 }
 
 // ---- words of a table

@@ -134,3 +134,14 @@ pub record Holds (from n : ℕ) (l : Links) (w : List ℕ) (r : Links) (w′ : L
 
 pub record Releases (l r : Links) : Type 0 where
   pub releases : (region : List ℕ) (s : State) → mediaSizes (s .media) ≡ 0 → l .end ≤ 16384 → Linked l region s → Linked r region (setSetext none s)
+
+-- ---- before the first event
+
+abbrev pub noMedia : Links
+noMedia =
+    record {
+      images = record { bits = 0; count = 0 };
+      media = record { «label_id» = L.Unset; label = T.Unset; «reference_id» = L.Unset; destination = D.Nowhere; title = T.Unset };
+      end = 0;
+      setext = T.Unset;
+    }

@@ -3,7 +3,7 @@
 ghost use mathlib.Core.Bool.{true};
 ghost use mathlib.Core.Path.{_≡_};
 ghost use Rattle.machine.specs.Media as M;
-ghost use Rattle.state_media.specs.Links.{Opens, Closes, IsImage, AnyOlderImage, Identifies, Empties, Leads, Stores, Holds, Releases};
+ghost use Rattle.state_media.specs.Links.{noMedia, Opens, Closes, IsImage, AnyOlderImage, Identifies, Empties, Leads, Stores, Holds, Releases};
 ghost use Rattle.state_media.specs.Private.{bareMedia, lengthOf, withLabelId, withLabel, withReferenceId, withDestination, withTitle};
 use event::BytePlace;
 use packed::Tight;
@@ -53,6 +53,20 @@ pub struct Links {
     // behind the held bytes
     pub end: usize,
     pub setext: Text,
+}
+
+// Before the first event: nothing is open and nothing is held.
+pub fn new() -> Links
+    ensures { λ r. ⌜ r ≡ noMedia ⌝ }
+{
+    let images = Tight { bits: 0, count: 0 };
+    let media = bare();
+    Links {
+        images,
+        media,
+        end: 0,
+        setext: Text::Unset,
+    }
 }
 
 fn bare() -> Media
