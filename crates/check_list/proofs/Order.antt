@@ -18,23 +18,24 @@ use Rattle.check_events.specs.declared.Looked.the-variants as K
 use Rattle.check_events.specs.Looked.{Passes, Looks}
 use Rattle.check_list.specs.declared.Checked.{Checked}
 use Rattle.check_list.specs.declared.Checked.the-variants.{Yes, WrongLength, NotUtf8, Field, Nested, Slice, Count, Label}
-use Rattle.check_list.specs.Checked.{event, sizesHold, checkOf, Checks, fromFields, fromNesting, fromSlices, fromCounts, fromLabels}
-use Rattle.check_list.proofs.Numbers.{checks}
+use Rattle.check_list.specs.Checked.{event, sizesHold, Checks}
+use Rattle.check_list.specs.Stairs.{stairsOf, fromFields, fromNesting, fromSlices, fromCounts, fromLabels}
+use Rattle.check_list.proofs.Numbers.{checks, stairs}
 
 module _ (text events : List ℕ) where
   module _ (x : Bool) (p : x ≡ sizesHold text events) where
     pub wrong-length : not x ≡ true → Checks text events WrongLength
-    unfolding checkOf
-    wrong-length h = checks text events (rw (← p, not-true x h))
+    unfolding stairsOf
+    wrong-length h = let e : WrongLength ≡ stairsOf text events = rw (← p, not-true x h) in checks text events (e ∙ stairs text events)
 
     module _ (y : Bool) (q : y ≡ isUtf8 text) (h : not x ≡ false) where
       pub not-utf8 : not y ≡ true → Checks text events NotUtf8
-      unfolding checkOf
-      not-utf8 k = checks text events (rw (← p, not-false x h, ← q, not-true y k))
+      unfolding stairsOf
+      not-utf8 k = let e : NotUtf8 ≡ stairsOf text events = rw (← p, not-false x h, ← q, not-true y k) in checks text events (e ∙ stairs text events)
 
       pub from-here : {r : Checked} → not y ≡ false → r ≡ fromFields text events → Checks text events r
-      unfolding checkOf
-      from-here k e = checks text events (e ∙ rw (← p, not-false x h, ← q, not-false y k))
+      unfolding stairsOf
+      from-here k e = let d : fromFields text events ≡ stairsOf text events = rw (← p, not-false x h, ← q, not-false y k) in checks text events (e ∙ d ∙ stairs text events)
 
   module _ (x : Looked) (p : Looks text events x) where
     pub looked-field : (i : ℕ) → x ≡ K.Field i → Field (event i) ≡ fromFields text events

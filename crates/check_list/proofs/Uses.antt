@@ -15,7 +15,7 @@ use Rattle.check_labels.proofs.Steps.{first-start, first-more, first-end}
 use Rattle.check_events.specs.declared.Passed.{Passed}
 use Rattle.check_events.specs.Looked.{isUse, NoUses, Passes}
 use Rattle.check_list.specs.declared.Checked.the-variants.{Yes}
-use Rattle.check_list.specs.Checked.{fromLabels}
+use Rattle.check_list.specs.Stairs.{fromLabels}
 use Rattle.check_list.proofs.Order.{labels-pass}
 
 unused-holds : (text : List ℕ) (events : List Event) (e : Event) (behind : List Event) → isUse e ≡ false → true ≡ labelHolds text events e behind

@@ -9,18 +9,14 @@ use Rattle.lent.specs.Bytes.{if_then_else_}
 use Rattle.utf8.specs.Utf8.{isUtf8}
 use Rattle.event.specs.declared.EventIndex.{EventIndex}
 use Rattle.event.specs.Event.{recordSize}
-use Rattle.check_nesting.specs.declared.Nesting.{Nesting}
 use Rattle.check_nesting.specs.declared.Nesting.the-variants as N
 use Rattle.check_nesting.specs.Tag.{tagsOf}
 use Rattle.check_nesting.specs.Pass.{nestOf}
-use Rattle.check_fields.specs.declared.Fields.{Fields}
 use Rattle.check_fields.specs.declared.Fields.the-variants as F
 use Rattle.check_fields.specs.Fields.{fieldsOf}
-use Rattle.check_slices.specs.declared.Slices.{Slices}
 use Rattle.check_slices.specs.declared.Slices.the-variants as S
 use Rattle.check_slices.specs.Slices.{slicesOf}
 use Rattle.check_slices.specs.Counts.{countsOf}
-use Rattle.check_labels.specs.declared.Labels.{Labels}
 use Rattle.check_labels.specs.declared.Labels.the-variants as L
 use Rattle.check_labels.specs.Labels.{undefinedOf}
 use Rattle.check_list.specs.declared.Checked.{Checked}
@@ -48,57 +44,14 @@ placeOf (Slice i) = i .0
 placeOf (Count i) = i .0
 placeOf (Label i) = i .0
 
--- ---- the answer, from a number on
+-- ---- the answer
 
 abbrev pub event : ℕ → EventIndex
 event i = record { 0 = i }
 
-abbrev pub afterFields : Fields → Checked → Checked
-afterFields F.Yes next = next
-afterFields (F.At i) next = Field (event i)
-
-abbrev pub afterNesting : Nesting → Checked → Checked
-afterNesting N.Yes next = next
-afterNesting (N.At i) next = Nested (event i)
-
-abbrev pub afterSlices : Slices → Checked → Checked
-afterSlices S.Yes next = next
-afterSlices (S.At i) next = Slice (event i)
-
-abbrev pub afterCounts : Slices → Checked → Checked
-afterCounts S.Yes next = next
-afterCounts (S.At i) next = Count (event i)
-
-abbrev pub afterLabels : Labels → Checked → Checked
-afterLabels L.Yes next = next
-afterLabels (L.At i) next = Label (event i)
-
-unfoldable pub fromLabels : (text events : List ℕ) → Checked
-fromLabels text events = afterLabels (undefinedOf text events) Yes
-
-unfoldable pub fromCounts : (text events : List ℕ) → Checked
-fromCounts text events = afterCounts (countsOf events) (fromLabels text events)
-
-unfoldable pub fromSlices : (text events : List ℕ) → Checked
-fromSlices text events = afterSlices (slicesOf text events) (fromCounts text events)
-
-unfoldable pub fromNesting : (text events : List ℕ) → Checked
-fromNesting text events = afterNesting (nestOf (tagsOf events)) (fromSlices text events)
-
-unfoldable pub fromFields : (text events : List ℕ) → Checked
-fromFields text events = afterFields (fieldsOf text events) (fromNesting text events)
-
 -- RULES R8.1: a text of up to 64,000 bytes, and up to 3,200 events, in whole records
 abbrev pub sizesHold : (text events : List ℕ) → Bool
 sizesHold text events = leb (length text) 64000 && leb (length events) (recordSize * 3200) && eqb (length events % recordSize) 0
-
-unfoldable pub checkOf : (text events : List ℕ) → Checked
-checkOf text events =
-    if not (sizesHold text events) then WrongLength
-    else if not (isUtf8 text) then NotUtf8
-    else fromFields text events
-
--- ---- the promise
 
 -- one of eight, by the first of the rules that is broken, in the order of their numbers; from 3 on with its event
 unfoldable pub choose : {A : Type 0} → (text events : List ℕ) → (sizes utf8 : A) → (field nested slice count label : ℕ → A) → (passed : A) → A
@@ -119,6 +72,11 @@ choose text events sizes utf8 field nested slice count label passed =
         ]
       ]
     ]
+
+unfoldable pub checkOf : (text events : List ℕ) → Checked
+checkOf text events = choose text events WrongLength NotUtf8 (λ i. Field (event i)) (λ i. Nested (event i)) (λ i. Slice (event i)) (λ i. Count (event i)) (λ i. Label (event i)) Yes
+
+-- ---- the promise
 
 -- a call on this text and these events answered r
 pub record Checks (text events : List ℕ) (r : Checked) : Type 0 where

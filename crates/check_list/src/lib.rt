@@ -1,8 +1,10 @@
 // The checker (RULES R7.3): whether a list of events and its text meet the rules, refusals 1 to 7 in the order of their numbers.
 ghost use mathlib.Core.Path.{_≡_};
 ghost use Rattle.check_events.specs.Looked.{Passes};
-ghost use Rattle.check_list.specs.Checked.{sizesHold, Checks, fromFields, fromSlices, fromCounts, fromLabels, numberOf, placeOf};
+ghost use Rattle.check_list.specs.Checked.{sizesHold, Checks, numberOf, placeOf};
+ghost use Rattle.check_list.specs.Stairs.{fromFields, fromSlices};
 use check_events::Passed;
+use check_labels::Labels;
 use check_slices::Slices;
 use event::Event;
 use event::EventIndex;
@@ -84,50 +86,30 @@ fn from_fields(text: &[u8], events: &[u8]) -> Checked
     match check_events::look(text, events) {
         check_events::Looked::Field(i) => Checked::Field(EventIndex(i)),
         check_events::Looked::Nested(i) => Checked::Nested(EventIndex(i)),
-        check_events::Looked::Through(p) => from_slices(text, events, p),
+        check_events::Looked::Through(p) => through(text, events, p),
     }
 }
 
-// From 5 on.
-fn from_slices(text: &[u8], events: &[u8], p: Passed) -> Checked
+// From 5 on, by what the walk found. A list without a link, an image or a call does not break 7.
+fn through(text: &[u8], events: &[u8], p: Passed) -> Checked
     requires { ⌜ Passes (now text) (now events) p ⌝ }
     ensures { λ r. ⌜ r ≡ fromSlices (now (text .entry)) (now (events .entry)) ⌝ }
 {
     let slices = p.slices;
-    match slices {
-        Slices::Yes => from_counts(text, events, p),
-        Slices::At(i) => Checked::Slice(EventIndex(i)),
-    }
-}
-
-// From 6 on.
-fn from_counts(text: &[u8], events: &[u8], p: Passed) -> Checked
-    requires { ⌜ Passes (now text) (now events) p ⌝ }
-    ensures { λ r. ⌜ r ≡ fromCounts (now (text .entry)) (now (events .entry)) ⌝ }
-{
     let counts = p.counts;
-    match counts {
-        Slices::Yes => from_labels(text, events, p),
-        Slices::At(i) => Checked::Count(EventIndex(i)),
-    }
-}
-
-// 7: a list without a link, an image or a call does not break it.
-fn from_labels(text: &[u8], events: &[u8], p: Passed) -> Checked
-    requires { ⌜ Passes (now text) (now events) p ⌝ }
-    ensures { λ r. ⌜ r ≡ fromLabels (now (text .entry)) (now (events .entry)) ⌝ }
-{
-    if p.uses {
-        return from_uses(text, events);
-    }
-    Checked::Yes
-}
-
-fn from_uses(text: &[u8], events: &[u8]) -> Checked
-    ensures { λ r. ⌜ r ≡ fromLabels (now (text .entry)) (now (events .entry)) ⌝ }
-{
-    match check_labels::check_labels(text, events) {
-        check_labels::Labels::Yes => Checked::Yes,
-        check_labels::Labels::At(i) => Checked::Label(EventIndex(i)),
+    match slices {
+        Slices::At(i) => Checked::Slice(EventIndex(i)),
+        Slices::Yes => match counts {
+            Slices::At(i) => Checked::Count(EventIndex(i)),
+            Slices::Yes => {
+                if !p.uses {
+                    return Checked::Yes;
+                }
+                match check_labels::check_labels(text, events) {
+                    Labels::Yes => Checked::Yes,
+                    Labels::At(i) => Checked::Label(EventIndex(i)),
+                }
+            }
+        },
     }
 }

@@ -41,7 +41,9 @@ use Rattle.check_labels.specs.declared.Labels.the-variants as L
 use Rattle.check_labels.specs.Labels.{undefinedOf}
 use Rattle.check_list.specs.declared.Checked.{Checked}
 use Rattle.check_list.specs.declared.Checked.the-variants.{Yes, WrongLength, NotUtf8, Field, Nested, Slice, Count, Label}
-use Rattle.check_list.specs.Checked.{event, sizesHold, checkOf, fromFields, fromNesting, fromSlices, fromCounts, fromLabels, afterFields, afterNesting, afterSlices, afterCounts, afterLabels}
+use Rattle.check_list.specs.Checked.{event, sizesHold, checkOf}
+use Rattle.check_list.specs.Stairs.{stairsOf, fromFields, fromNesting, fromSlices, fromCounts, fromLabels, afterFields, afterNesting, afterSlices, afterCounts, afterLabels}
+use Rattle.check_list.proofs.Numbers.{stairs}
 use Rattle.check_rules.specs.Rules.{SizesMeet, SliceMeets, CountsMeet, FieldMeets, LabelAt, Each, Meets, Earliest, TooMany, Misplaced, Says, all-met, first, second, third, fourth, fifth, sixth, seventh}
 use Rattle.check_rules.proofs.Before.{clash}
 use Rattle.check_rules.proofs.States.{holds-there, holds-past}
@@ -147,8 +149,8 @@ module _ (text events : List ℕ) where
 
   -- what the answer says is so
   pub says : Says text events (checkOf text events)
-  unfolding checkOf fromFields
-  says = go (sizesHold text events) refl (isUtf8 text) refl
+  unfolding stairsOf fromFields
+  says = rw (← stairs text events) (go (sizesHold text events) refl (isUtf8 text) refl)
     where
       go : (a : Bool) → sizesHold text events ≡ a → (b : Bool) → isUtf8 text ≡ b → Says text events (if not a then WrongLength else if not b then NotUtf8 else fromFields text events)
       go false p b q = first (λ m. clash (sizes-hold m) p)

@@ -27,7 +27,9 @@ use Rattle.check_labels.specs.declared.Labels.the-variants as L
 use Rattle.check_labels.specs.Labels.{undefinedOf}
 use Rattle.check_list.specs.declared.Checked.{Checked}
 use Rattle.check_list.specs.declared.Checked.the-variants.{Yes, WrongLength, NotUtf8, Field, Nested, Slice, Count, Label}
-use Rattle.check_list.specs.Checked.{event, sizesHold, checkOf, fromFields, fromNesting, fromSlices, fromCounts, fromLabels, afterFields, afterNesting, afterSlices, afterCounts, afterLabels}
+use Rattle.check_list.specs.Checked.{event, sizesHold, checkOf}
+use Rattle.check_list.specs.Stairs.{stairsOf, fromFields, fromNesting, fromSlices, fromCounts, fromLabels, afterFields, afterNesting, afterSlices, afterCounts, afterLabels}
+use Rattle.check_list.proofs.Numbers.{stairs}
 use Rattle.check_rules.specs.Rules.{SizesMeet, SliceMeets, CountsMeet, FieldMeets, LabelAt, Each, Earliest, TooMany, Misplaced, Says, all-met, first, second, third, fourth, fifth, sixth, seventh}
 use Rattle.check_rules.proofs.Counts.{counts-prefix, counts-meet, counts-break}
 use Rattle.check_rules.proofs.Labels.{labels-meet, labels-break}
@@ -78,8 +80,8 @@ module _ (text events : List ℕ) where
 
   module _ (s : SizesMeet text events) where
     pass-sizes : (if not (isUtf8 text) then NotUtf8 else fromFields text events) ≡ checkOf text events
-    unfolding checkOf
-    pass-sizes = rw (sizes-hold text events s)
+    unfolding stairsOf
+    pass-sizes = rw (sizes-hold text events s) at (stairs text events)
 
     module _ (c : Characters text) where
       pass-characters : fromFields text events ≡ checkOf text events
@@ -105,8 +107,8 @@ module _ (text events : List ℕ) where
             pass-counts m = count-next (fromLabels text events) m (countsOf events) refl ∙ pass-slices
 
   too-long : (SizesMeet text events → ⊥) → WrongLength ≡ checkOf text events
-  unfolding checkOf
-  too-long x = go (sizesHold text events) refl
+  unfolding stairsOf
+  too-long x = go (sizesHold text events) refl ∙ stairs text events
     where
       go : (a : Bool) → sizesHold text events ≡ a → WrongLength ≡ (if not a then WrongLength else if not (isUtf8 text) then NotUtf8 else fromFields text events)
       go false p = refl

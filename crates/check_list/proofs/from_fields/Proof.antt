@@ -4,8 +4,8 @@ use Rattle.check_list.proofs.from_fields.Statement.{statement}
 use Rattle.check_list.proofs.from_fields.Tie as tie
 use Rattle.check_list.proofs.Order.{looked-field, looked-nested, looked-passes, looked-through}
 
-from-slices-requires : tie.Need-from-slices-requires
-from-slices-requires c κs = search looked-passes
+through-requires : tie.Need-through-requires
+through-requires c κs = search looked-passes
 
 returns : tie.Need-returns
 returns c = search looked-field
@@ -19,4 +19,4 @@ returns-3 c = search looked-through
 pub from-fields-spec : {M : Type 1} → statement M
 from-fields-spec =
     tie.close
-    (tie.spec (λ c κs. search needs) (λ c. search needs) (λ c. search needs) (λ c. search needs) from-slices-requires returns returns-2 returns-3)
+    (tie.spec (λ c κs. search needs) (λ c. search needs) (λ c. search needs) (λ c. search needs) through-requires returns returns-2 returns-3)
