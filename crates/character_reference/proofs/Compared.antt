@@ -81,14 +81,6 @@ equal (x ∷ s) (y ∷ t) p =
     (λ e q. rw (e, equal s t q))
     p
 
-same-order : (o : Order) → isSame o ≡ true → o ≡ Same
-same-order Before p = let z : _≡_ {A = ℕ} 0 1 = cc in absurd (omega arith)
-same-order Same p = refl
-same-order Behind p = let z : _≡_ {A = ℕ} 0 1 = cc in absurd (omega arith)
-
-pub same-equal : (s t : List ℕ) → same s t ≡ true → s ≡ t
-same-equal s t p = equal s t (same-order (orderOf s t) (sym (told s t) ∙ p))
-
 pub before-trans : (s t u : List ℕ) → orderOf s t ≡ Before → orderOf t u ≡ Before → orderOf s u ≡ Before
 unfolding orderOf
 before-trans s [] u p q = absurd (none-before s p)

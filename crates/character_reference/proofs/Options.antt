@@ -12,7 +12,7 @@ use Rattle.character_reference.specs.declared.Value.{Value}
 use Rattle.character_reference.specs.declared.Value.the-variants.{Code}
 use Rattle.character_reference.specs.Names.{names}
 use Rattle.character_reference.specs.Reference.{lookup, namesOf, namedOf, valueOf, standsFor, referenceOf, referenceFor, isSome}
-use Rattle.character_reference.proofs.Compared.{same-equal}
+use Rattle.lent.proofs.Same.{same-equal}
 
 -- ---- with 4: two names, then the table
 

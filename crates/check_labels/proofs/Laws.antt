@@ -11,7 +11,7 @@ use Rattle.lent.specs.Bytes.{same, listed}
 use Rattle.event.specs.declared.Event.{Event}
 use Rattle.event.specs.Event.{eventsOf}
 use Rattle.normalize_identifier.specs.Identity.{identityOf}
-use Rattle.normalize_identifier.proofs.Laws.{same-iff}
+use Rattle.lent.proofs.Same.{same-iff}
 use Rattle.check_labels.specs.declared.Part.{Part}
 use Rattle.check_labels.specs.declared.Part.the-variants.{Slice, Nothing}
 use Rattle.check_labels.specs.declared.Labels.{Labels}

@@ -3,3 +3,4 @@ pub mod Running
 pub mod Answers
 pub mod Examples
 pub mod CodeText
+pub mod Pushes

@@ -1,12 +1,13 @@
 -- Texts written one behind the other are one text written. Assumes nothing.
 use mathlib.Core.Path.{_≡_, refl, sym, ap, _∙_}
-use mathlib.Core.List.{List, [], _∷_, _++_, append-nil, append-assoc}
+use mathlib.Core.List.{List, [], _∷_, _++_}
 use Prim.Native.Nat.{ℕ}
 use Prim.Native.String.{String}
 use lib.Dec.{T}
 use Rattle.machine.specs.State.{State}
 use Rattle.machine.specs.Set.{setCaptures}
 use Rattle.machine.specs.Buffers.{push, write, endLine, endLineIfNeeded}
+use Rattle.machine.proofs.Pushes.{push-none, push-both}
 use Rattle.machine_clean.specs.Clean.{Valid, Clean}
 use Rattle.machine_clean.specs.Ours.{plain}
 use Rattle.machine_clean.specs.Section.{Appends}
@@ -15,22 +16,6 @@ use Rattle.machine_clean.proofs.Texts.{ending-valid}
 use Rattle.machine_clean.proofs.Pushed.{pushed, needed-valid}
 
 -- ---- the newest buffer is the page or a capture
-
-none-in : (cs : List (List ℕ)) (s : State) → push [] (setCaptures cs s) ≡ setCaptures cs s
-unfolding push
-none-in [] s = rw append-nil
-none-in (c ∷ cs) s = rw append-nil
-
-push-none : (s : State) → push [] s ≡ s
-push-none s = none-in (s .captures) s
-
-both-in : (a b : List ℕ) (cs : List (List ℕ)) (s : State) → push b (push a (setCaptures cs s)) ≡ push (a ++ b) (setCaptures cs s)
-unfolding push
-both-in a b [] s = rw append-assoc
-both-in a b (c ∷ cs) s = rw append-assoc
-
-push-both : (a b : List ℕ) (s : State) → push b (push a s) ≡ push (a ++ b) s
-push-both a b s = both-in a b (s .captures) s
 
 kept-in : (b : List ℕ) (cs : List (List ℕ)) (s : State) → push b (setCaptures cs s) .kept ≡ s .kept
 unfolding push

@@ -13,7 +13,7 @@ use Rattle.normalize_identifier.specs.declared.Found.{Found}
 use Rattle.normalize_identifier.specs.declared.Found.the-variants.{At, Nothing}
 use Rattle.normalize_identifier.specs.Identity.{identityOf}
 use Rattle.normalize_identifier.specs.Search.{firstFrom, firstSame}
-use Rattle.normalize_identifier.proofs.Laws.{same-iff}
+use Rattle.lent.proofs.Same.{same-iff}
 use Rattle.machine.specs.Outcome.{go, _>>=_, need}
 use Rattle.machine.specs.State.{State, Footnote, Call}
 use Rattle.machine.specs.Buffers.{push, endLineIfNeeded}

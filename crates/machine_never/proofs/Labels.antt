@@ -13,7 +13,7 @@ use Rattle.event.specs.Event.{isEnter}
 use Rattle.normalize_identifier.specs.declared.Found.the-variants.{At, Nothing as Missing}
 use Rattle.normalize_identifier.specs.Identity.{identityOf}
 use Rattle.normalize_identifier.specs.Search.{firstFrom, firstSame}
-use Rattle.normalize_identifier.proofs.Laws.{same-iff}
+use Rattle.lent.proofs.Same.{same-iff}
 use Rattle.check_labels.specs.declared.Part.{Part}
 use Rattle.check_labels.specs.declared.Part.the-variants.{Slice, Nothing}
 use Rattle.check_labels.specs.Labels.{slice, labelOf, identities}

@@ -12,7 +12,7 @@ use Rattle.normalize_identifier.specs.declared.Found.{Found}
 use Rattle.normalize_identifier.specs.declared.Found.the-variants.{At, Nothing}
 use Rattle.normalize_identifier.specs.Identity.{identityOf}
 use Rattle.normalize_identifier.specs.Search.{firstFrom, firstSame}
-use Rattle.normalize_identifier.proofs.Laws.{same-iff}
+use Rattle.lent.proofs.Same.{same-iff}
 use Rattle.check_rules.proofs.Before.{clash}
 use Rattle.machine.specs.State.{Call}
 use Rattle.machine.specs.Footnote.{callLabels, atOr, callIndex, countAt}

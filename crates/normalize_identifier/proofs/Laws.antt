@@ -1,16 +1,17 @@
 -- What other crates go by: laws of identities, of cursors and of the search. Assumes nothing.
-use mathlib.Core.Path.{_≡_, refl, sym, ap, ap₂, _∙_}
+use mathlib.Core.Path.{_≡_, refl, sym, ap, _∙_}
 use mathlib.Core.Logic.{_↔_}
 use mathlib.Core.Bool.{Bool, true, false, not, true≢false}
 use mathlib.Core.List.{List, [], _∷_, _++_}
 use Prim.Native.Nat.{ℕ, zero, suc, _+_, _-_, _<_, _≤_}
 use native.Mathlib.Omega.{arith}
 use native.Mathlib.Numerals.{add-one}
-use lib.Dec.{leb, eqb}
+use lib.Dec.{leb}
 use lib.ListN.{length, getD, take, drop, set, length-take}
 use lib.Seq.{take-suc-set}
-use borrow.Author.Tests.{eq-eqb, eqb-true, leb-true, lt-leb}
+use borrow.Author.Tests.{leb-true, lt-leb}
 use Rattle.lent.specs.Bytes.{all, between, same}
+use Rattle.lent.proofs.Same.{same-iff}
 use Rattle.lent.proofs.Laws.{and-left, and-right}
 use Rattle.normalize_identifier.specs.declared.Cursor.{Cursor}
 use Rattle.normalize_identifier.specs.declared.Step.{Step}
@@ -58,20 +59,6 @@ module _ {label : List ℕ} {c : Cursor} {n : Step} (s : Spells label c n) where
   forward-more p = let f = rw p at (s .forward) in omega arith
 
 -- ---- the same bytes, the same identities
-
-same-self : (s : List ℕ) → same s s ≡ true
-same-self [] = refl
-same-self (x ∷ xs) = rw (eq-eqb x x refl) (same-self xs)
-
-same-eq : (s t : List ℕ) → same s t ≡ true → s ≡ t
-same-eq [] [] p = refl
-same-eq [] (y ∷ ys) p = cc
-same-eq (x ∷ xs) [] p = cc
-same-eq (x ∷ xs) (y ∷ ys) p =
-    ap₂ (λ (z : ℕ) (zs : List ℕ). z ∷ zs) (eqb-true x y (and-left (eqb x y) (same xs ys) p)) (same-eq xs ys (and-right (eqb x y) (same xs ys) p))
-
-pub same-iff : (s t : List ℕ) → (same s t ≡ true) ↔ (s ≡ t)
-same-iff s t = (same-eq s t, λ p. rw p (same-self t))
 
 -- two labels are the same by `same_identity` exactly when their identities are equal
 pub same-identities : (a b : List ℕ) → (same (identityOf a) (identityOf b) ≡ true) ↔ (identityOf a ≡ identityOf b)

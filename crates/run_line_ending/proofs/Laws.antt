@@ -1,16 +1,16 @@
 -- Which line ending a slice is, and the walk to the first. Assumes nothing.
 use mathlib.Core.Path.{_≡_, refl, sym, ap, _∙_}
-use mathlib.Core.Bool.{Bool, true, false, not, _&&_, _||_}
+use mathlib.Core.Bool.{Bool, true, false, _&&_, _||_}
 use mathlib.Core.List.{List, [], _∷_}
-use Prim.Native.Nat.{ℕ, zero, suc, _+_, _-_, _/_, _≤_, _<_}
+use Prim.Native.Nat.{ℕ, suc, _+_, _-_, _/_, _≤_, _<_}
 use native.Mathlib.Omega.{arith}
-use native.Mathlib.Numerals.{add-one}
-use borrow.Author.Tests.{leb-true, eqb-true, eqb-false}
+use borrow.Author.Tests.{leb-true}
 use lib.Dec.{eqb, leb}
 use lib.ListN.{length, take, drop, getD, length-take, length-drop}
 use lib.Seq.{drop-cons}
 use Rattle.lent.specs.Bytes.{if_then_else_, bytes, same}
 use Rattle.lent.proofs.Laws.{and-left, and-right}
+use Rattle.lent.proofs.Same.{same-equal}
 use Rattle.utf8.specs.Utf8.{isUtf8}
 use Rattle.event.specs.declared.Event.{Event}
 use Rattle.event.specs.Event.{isEnter, named, eventAt, eventsOf}
@@ -32,25 +32,19 @@ data Kind : List ℕ → Ending → Type 0 where
   crlf : Kind (13 ∷ 10 ∷ []) CrLf
 
 -- as the definition says
-same-is : (a b : List ℕ) → same a b ≡ true → a ≡ b
-same-is [] [] p = refl
-same-is [] (y ∷ ys) p = let z : _≡_ {A = ℕ} 0 1 = cc in absurd (omega arith)
-same-is (x ∷ xs) [] p = let z : _≡_ {A = ℕ} 0 1 = cc in absurd (omega arith)
-same-is (x ∷ xs) (y ∷ ys) p = let q = eqb-true x y (and-left (eqb x y) (same xs ys) p) in let r = same-is xs ys (and-right (eqb x y) (same xs ys) p) in cc
-
 parsed : (b : List ℕ) (x : Ending) → parseEnding b ≡ go x → Kind b x
 parsed b x p = first (same b (bytes "\n")) refl p
   where
     third : (t : Bool) → same b (bytes "\r\n") ≡ t → (if t then go CrLf else stop) ≡ go x → Kind b x
-    third true q r = let e : b ≡ 13 ∷ 10 ∷ [] = same-is b (bytes "\r\n") q in let y : CrLf ≡ x = cc in rw (e, ← y) crlf
+    third true q r = let e : b ≡ 13 ∷ 10 ∷ [] = same-equal b (bytes "\r\n") q in let y : CrLf ≡ x = cc in rw (e, ← y) crlf
     third false q r = never r
 
     second : (t : Bool) → same b (bytes "\r") ≡ t → (if t then go Cr else (if same b (bytes "\r\n") then go CrLf else stop)) ≡ go x → Kind b x
-    second true q r = let e : b ≡ 13 ∷ [] = same-is b (bytes "\r") q in let y : Cr ≡ x = cc in rw (e, ← y) cr
+    second true q r = let e : b ≡ 13 ∷ [] = same-equal b (bytes "\r") q in let y : Cr ≡ x = cc in rw (e, ← y) cr
     second false q r = third (same b (bytes "\r\n")) refl r
 
     first : (t : Bool) → same b (bytes "\n") ≡ t → (if t then go Lf else (if same b (bytes "\r") then go Cr else (if same b (bytes "\r\n") then go CrLf else stop))) ≡ go x → Kind b x
-    first true q r = let e : b ≡ 10 ∷ [] = same-is b (bytes "\n") q in let y : Lf ≡ x = cc in rw (e, ← y) lf
+    first true q r = let e : b ≡ 10 ∷ [] = same-equal b (bytes "\n") q in let y : Lf ≡ x = cc in rw (e, ← y) lf
     first false q r = second (same b (bytes "\r")) refl r
 
 -- of the text it is so long, and begins there

@@ -14,7 +14,8 @@ use Rattle.normalize_identifier.specs.declared.Cursor.{Cursor}
 use Rattle.normalize_identifier.specs.declared.Step.{Step}
 use Rattle.normalize_identifier.specs.declared.Step.the-variants.{Byte, End}
 use Rattle.normalize_identifier.specs.Identity.{atStart, identityOf, leftAt, Spells}
-use Rattle.normalize_identifier.proofs.Laws.{left-start, left-more, left-end, same-iff}
+use Rattle.lent.proofs.Same.{same-iff}
+use Rattle.normalize_identifier.proofs.Laws.{left-start, left-more, left-end}
 use Rattle.signature.specs.declared.Signature.{Signature}
 use Rattle.signature.specs.Signature.{words, lowProduct, highProduct, turn, mix, before, signatureFrom, signatureOf}
 use Rattle.signature.specs.Signed.{Differs}

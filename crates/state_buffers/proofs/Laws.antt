@@ -1,16 +1,16 @@
 -- What a push does to buffers in which the machine's stand. Assumes nothing.
-use mathlib.Core.Path.{_≡_, refl, sym, ap, _∙_}
-use mathlib.Core.List.{List, [], _∷_, _++_, append-nil, append-assoc}
-use Prim.Native.Nat.{ℕ, zero, suc, _+_, _≤_, _<_}
+use mathlib.Core.Path.{_≡_, refl, ap, _∙_}
+use mathlib.Core.List.{List, [], _∷_, _++_, append-assoc}
+use Prim.Native.Nat.{ℕ, _+_, _≤_, _<_}
 use native.Mathlib.Omega.{arith}
-use lib.ListN.{length, take, getD, length-append}
-use Rattle.lent.specs.Fill.{fill, past, Filled}
+use lib.ListN.{length, take, length-append}
+use Rattle.lent.specs.Fill.{Filled}
 use Rattle.lent.proofs.Laws.{length-filled, take-fill}
 use Rattle.machine.specs.State.{State}
 use Rattle.machine.specs.Buffers.{push}
 use Rattle.machine.specs.Set.{setPage, setCaptures}
 use Rattle.state_buffers.specs.declared.Buffers.{Buffers}
-use Rattle.state_buffers.specs.Stand.{Holds, flat, Saved, Starts, Stand, Keeps}
+use Rattle.state_buffers.specs.Stand.{Holds, flat, Stand, Keeps}
 
 -- ---- a buffer that holds a text
 
@@ -61,14 +61,6 @@ push-nil t s e = rw e
 pub push-cons : (t : List ℕ) (s : State) (c : List ℕ) (cs : List (List ℕ)) → s .captures ≡ c ∷ cs → push t s ≡ setCaptures ((c ++ t) ∷ cs) s
 unfolding push
 push-cons t s c cs e = rw e
-
--- nothing, pushed, changes nothing
-pub push-none : (s : State) → push [] s ≡ s
-push-none s = on (s .captures) refl
-  where
-    on : (cs : List (List ℕ)) → s .captures ≡ cs → push [] s ≡ s
-    on [] p = push-nil [] s p ∙ ap (λ x. setPage x s) (append-nil (s .page))
-    on (c ∷ cs) p = push-cons [] s c cs p ∙ ap (λ x. setCaptures (x ∷ cs) s) (append-nil c) ∙ ap (λ x. setCaptures x s) (sym p)
 
 module _ (b : Buffers) (captures out t : List ℕ) where
   pub push-page : (e : List ℕ) (r : ℕ) → b .depth ≡ 0 → Filled out (b .page) t e r → Keeps (push t) b captures out (withPage r b) captures e

@@ -19,7 +19,8 @@ use Rattle.machine.specs.Buffers.{push, endLine, endingIfNeeded, endLineIfNeede
 use Rattle.state_buffers.specs.declared.Buffers.{Buffers}
 use Rattle.state_buffers.specs.Stand.{Holds, flat, Saved, Starts, Stand, Keeps, KeepsBy, endLineBy}
 use Rattle.state_buffers.specs.Private.{endsLine, atLineStart, needless}
-use Rattle.state_buffers.proofs.Laws.{withPage, withEnd, holds-place, holds-fits, holds-full, push-nil, push-cons, push-none, push-page, push-capture}
+use Rattle.machine.proofs.Pushes.{push-none}
+use Rattle.state_buffers.proofs.Laws.{withPage, withEnd, holds-place, holds-fits, holds-full, push-nil, push-cons, push-page, push-capture}
 
 -- ---- the last byte
 

@@ -13,7 +13,8 @@ use Rattle.machine.specs.Turn.{asStr}
 use Rattle.machine.specs.Footnote.{addressOf}
 use Rattle.machine.specs.Section.{bodyOf, bodyEnd, endsParagraph, backreferences, pushBody, footnoteItem, footnoteItems, footnoteSection}
 use Rattle.machine.proofs.Outcomes.{never, first-goes}
-use Rattle.state_buffers.proofs.Laws.{push-nil, push-none}
+use Rattle.machine.proofs.Pushes.{push-none}
+use Rattle.state_buffers.proofs.Laws.{push-nil}
 use Rattle.state_kept.proofs.Labels.{str-is}
 use Rattle.write_section.specs.Pages.{ended, headingText, headPage, tailText, itemStart, splitBody, behindBody, bodyPage, itemEnd, itemPage, itemsPage}
 
