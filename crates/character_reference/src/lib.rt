@@ -9,7 +9,7 @@ ghost use Rattle.lent.specs.Bytes.{same};
 ghost use Rattle.character_reference.specs.Reference.{isReplaced, codeOf, digitValue, numeralOf, lookup, namedOf, valueOf, referenceOf, referenceFor, isSome, orNothing};
 ghost use Rattle.character_reference.specs.Table.{orderOf, nameAt, Lies, isPackedFrom, unpackedFrom, isAscending};
 
-mod packed;
+mod table;
 
 // ---- a character, written in UTF-8
 
@@ -214,7 +214,7 @@ fn look_up(s: &[u8], packed: &[u8], starts: &[u16], codes: &[u16]) -> Value
 fn named_5(s: &[u8]) -> Value
     ensures { λ r. ⌜ r ≡ namedOf Names.Html5 (now (s .entry)) ⌝ }
 {
-    look_up(s, &packed::NAMES, &packed::STARTS, &packed::CODES)
+    look_up(s, &table::NAMES, &table::STARTS, &table::CODES)
 }
 
 // And in HTML 4.01, which has two of them otherwise.
