@@ -3,7 +3,7 @@ use crate::export::export;
 use crate::record::{written, Record};
 #[cfg(not(count))]
 use crate::measure;
-use crate::Side;
+use crate::{Answer, Side};
 use markdown::to_html::compile;
 use markdown::{parser, CompileOptions, Constructs, ParseOptions};
 use std::hint::black_box;
@@ -11,19 +11,30 @@ use std::hint::black_box;
 use std::time::Instant;
 
 extern "C" {
-    fn page_check(text: *const u8, n: usize, events: *const u8, m: usize) -> u32;
-    fn page_build(text: *const u8, n: usize, events: *const u8, m: usize, out: *mut u8, room: usize, work: *mut u8, w: usize) -> u64;
+    fn notepage_check(text: *const u8, n: usize, events: *const u8, m: usize) -> Answer;
+    fn notepage_build(
+        text: *const u8,
+        n: usize,
+        events: *const u8,
+        m: usize,
+        options: u32,
+        out: *mut u8,
+        room: usize,
+        work: *mut u8,
+        w: usize,
+    ) -> Answer;
 }
 
 /// The number of RULES R7.1 for a list: 0 is yes.
 fn check(text: &[u8], events: &[u8]) -> u32 {
-    unsafe { page_check(text.as_ptr(), text.len(), events.as_ptr(), events.len()) }
+    unsafe { notepage_check(text.as_ptr(), text.len(), events.as_ptr(), events.len()) }.number
 }
 
-/// The page's length in a buffer that is lent, or 2^63 and the refusal's number.
+/// The page's length in a buffer that is lent, or a number above every length.
 fn build(text: &[u8], events: &[u8], out: &mut [u8], work: &mut [u8]) -> u64 {
     let (t, e) = (text.as_ptr(), events.as_ptr());
-    unsafe { page_build(t, text.len(), e, events.len(), out.as_mut_ptr(), out.len(), work.as_mut_ptr(), work.len()) }
+    let (o, w) = (out.as_mut_ptr(), work.as_mut_ptr());
+    unsafe { notepage_build(t, text.len(), e, events.len(), 0, o, out.len(), w, work.len()) }.length()
 }
 
 /// A block of each kind of note, to be repeated.

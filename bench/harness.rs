@@ -31,13 +31,35 @@ use std::time::Instant;
 const SEED: u64 = 1;
 const ROUNDS: usize = 41;
 
+/// What a public call answers: 0 and a length, or a refusal's number and place.
+#[repr(C)]
+struct Answer {
+    number: u32,
+    value: usize,
+}
+
+impl Answer {
+    /// The length, or a number above every length.
+    fn length(self) -> u64 {
+        if self.number == 0 { self.value as u64 } else { u64::MAX }
+    }
+}
+
+unsafe extern "C" fn page_escape(src: *const u8, n: usize, out: *mut u8, room: usize) -> u64 {
+    notepage_escape(src, n, 1, out, room).length()
+}
+
+unsafe extern "C" fn page_sanitize(src: *const u8, n: usize, out: *mut u8, room: usize) -> u64 {
+    notepage_sanitize(src, n, out, room).length()
+}
+
 // Each answers a length; the public calls may refuse, by a number above every length.
 type Ours = unsafe extern "C" fn(*const u8, usize, *mut u8, usize) -> u64;
 extern "C" {
     fn leaf_encode(src: *const u8, n: usize, out: *mut u8, room: usize) -> u64;
     fn leaf_sanitize(src: *const u8, n: usize, out: *mut u8, room: usize) -> u64;
-    fn page_escape(src: *const u8, n: usize, out: *mut u8, room: usize) -> u64;
-    fn page_sanitize(src: *const u8, n: usize, out: *mut u8, room: usize) -> u64;
+    fn notepage_escape(src: *const u8, n: usize, options: u32, out: *mut u8, room: usize) -> Answer;
+    fn notepage_sanitize(src: *const u8, n: usize, out: *mut u8, room: usize) -> Answer;
     fn leaf_read_bundle(
         bundle: *const u8,
         n: usize,

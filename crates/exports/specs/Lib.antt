@@ -1,2 +1,3 @@
-pub mod Packed
-pub mod Cut
+pub mod Told
+pub mod Given
+pub mod Reader

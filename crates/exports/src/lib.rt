@@ -1,161 +1,418 @@
-// The library for C and Rust: public calls with plain numbers for answers, and what is measured alone.
-ghost use mathlib.Core.Bool.{true};
+// The library for C and whatever calls C: each public call of the page under one prefix, its answer in numbers (include/notepage.h).
+ghost use Prim.Native.Nat.{ℕ, _<_};
+ghost use mathlib.Core.List.{List};
 ghost use mathlib.Core.Path.{_≡_};
-ghost use Rattle.lent.specs.Fill.{Filled};
 ghost use Rattle.encode.specs.Encode.{encodeOf};
 ghost use Rattle.sanitize_uri.specs.Url.{sanitizeOf};
-ghost use Rattle.check_list.specs.Checked.{checkOf, numberOf};
-ghost use Prim.Native.Nat.{_+_, _^_, _<_};
-ghost use lib.ListN.{length};
-ghost use Rattle.exports.specs.Packed.{packed, HasNumber, HasNumberLate, Packs, packedBuilt, plain, PacksBuilt};
-ghost use Rattle.exports.specs.Cut.{Cut};
+ghost use Rattle.sanitize_uri.specs.Protocols.{linkSchemes, imageSchemes, sanitizeWithProtocolsOf};
+ghost use Rattle.normalize_identifier.specs.Identity.{identityOf};
+ghost use Rattle.bundle_read.specs.Read.{HasRead};
+ghost use Rattle.bundle_writer.specs.Packed.{HasPacked};
+ghost use Rattle.bundle_parts.specs.Feed.{standOf, startOf, feedOf, endOf};
+ghost use Rattle.check_list.specs.Checked.{Checks};
+ghost use Rattle.call_build.specs.Build.{Builds};
+ghost use Rattle.call_text_answer.specs.Written.{Wrote};
+ghost use Rattle.exports.specs.Told.{Told, ofWritten, ofChecked, ofBuilt, ofPacked, ofRead, ofProgress, isDone};
+ghost use Rattle.exports.specs.Given.{hasBit, endingOf, namesOf, optionsOf};
+ghost use Rattle.exports.specs.Reader.{refusalOf, answerOf, progressOf, knownOf, readerOf};
+use bundle_block::Refusal;
+use bundle_known::Known;
 use bundle_parts::Progress;
 use bundle_parts::Reader;
+use bundle_parts::State;
+use bundle_read::Answer;
+use bundle_writer::Packed;
 use call_build_answer::Built;
+use call_text_answer::Written;
 use character_reference::Names;
+use check_list::Checked;
 use machine::Ending;
 use machine::Options;
 
-// Escapes a text for HTML, encoding on.
+// 10,000 times the first number, 100 times the second, and the third.
+const VERSION: u32 = 100;
+
+// The number that says that more is wanted.
+const MORE: u32 = 255;
+
+// An answer's number (RULES R7.1), and the length or the refusal's place.
+#[repr(C)]
+pub struct NotepageAnswer {
+    pub number: u32,
+    pub value: usize,
+}
+
+// The number; the text's length or the refusal's place, the events' length in bytes, and the edition.
+#[repr(C)]
+pub struct NotepageRead {
+    pub number: u32,
+    pub edition: u32,
+    pub value: usize,
+    pub events: usize,
+}
+
+// The state of a reader in parts between two calls. In one before the first part every number is zero.
+#[repr(C)]
+pub struct NotepageReader {
+    pub begun: u32,
+    pub edition: u32,
+    pub text: u32,
+    pub events: u32,
+    pub text_came: u32,
+    pub events_came: u32,
+    pub over: u32,
+    pub done: u32,
+    pub held: usize,
+    pub answer: NotepageRead,
+    pub rest: [u8; 512],
+}
+
 #[no_mangle]
-pub extern "C" fn page_escape(text: &[u8], out: &mut [u8]) -> u64
-    ensures { λ r. ⌜ Packs (now (text .entry)) (encodeOf true (now (text .entry))) (now (out .entry)) (now (out .exit)) r ⌝ }
+pub extern "C" fn notepage_version() -> u32
+    ensures { λ r. ⌜ r ≡ 100 ⌝ }
 {
-    let written = page::escape(text, true, out);
-    pack(written)
+    VERSION
+}
+
+// Whether a text and its events meet the rules: RULES R7, refusals 1 to 7.
+#[no_mangle]
+pub extern "C" fn notepage_check(text: &[u8], events: &[u8]) -> NotepageAnswer
+    ensures { λ r. ⌜ Told (Checks (now (text .entry)) (now (events .entry))) ofChecked r ⌝ }
+{
+    let checked = page::check(text, events);
+    tell_checked(checked)
+}
+
+// The page of a note with zeros behind it; or a refusal, with nothing in the output. Every work byte is zero afterwards.
+#[no_mangle]
+pub extern "C" fn notepage_build(
+    text: &[u8],
+    events: &[u8],
+    options: u32,
+    out: &mut [u8],
+    work: &mut [u8],
+) -> NotepageAnswer
+    ensures { λ r. ⌜ Told (Builds (now (text .entry)) (now (events .entry)) (optionsOf options) (now (out .entry)) (now (work .entry)) (now (out .exit)) (now (work .exit))) ofBuilt r ⌝ }
+{
+    let built = page::build(text, events, options_of(options), out, work);
+    tell_built(built)
+}
+
+// Reads the text and the events of a note bundle.
+#[no_mangle]
+pub extern "C" fn notepage_read_bundle(
+    bundle: &[u8],
+    text: &mut [u8],
+    events: &mut [u8],
+) -> NotepageRead
+    ensures { λ r. ⌜ Told (HasRead (now (bundle .entry)) (now (text .entry)) (now (events .entry)) (now (text .exit)) (now (events .exit))) ofRead r ⌝ }
+{
+    let answer = page::read_bundle(bundle, text, events);
+    tell_read(answer)
+}
+
+// Writes the note bundle of a text, events and an edition, with zeros behind it; or a refusal, with nothing in the output.
+#[no_mangle]
+pub extern "C" fn notepage_write_bundle(
+    text: &[u8],
+    events: &[u8],
+    edition: u32,
+    out: &mut [u8],
+) -> NotepageAnswer
+    ensures { λ r. ⌜ Told (HasPacked (now (text .entry)) (now (events .entry)) edition (now (out .entry)) (now (out .exit))) ofPacked r ⌝ }
+{
+    let packed = page::write_bundle(text, events, edition, out);
+    tell_packed(packed)
+}
+
+// A reader for a note bundle that comes in parts, before the first of them.
+#[no_mangle]
+pub extern "C" fn notepage_bundle_reader() -> NotepageReader
+    ensures { λ r. ⌜ ((t e : List ℕ) → standOf (readerOf r) t e ≡ startOf t e) ⌝ }
+{
+    tell_reader(page::bundle_reader())
+}
+
+// The next part of a bundle, of any length.
+#[no_mangle]
+pub extern "C" fn notepage_feed_bundle(
+    reader: NotepageReader,
+    part: &[u8],
+    text: &mut [u8],
+    events: &mut [u8],
+) -> NotepageReader
+    ensures { λ r. ⌜ standOf (readerOf r) (now (text .exit)) (now (events .exit)) ≡ feedOf (standOf (readerOf reader) (now (text .entry)) (now (events .entry))) (now (part .entry)) ⌝ }
+{
+    let fed = page::feed_bundle(reader_of(reader), part, text, events);
+    tell_reader(fed)
+}
+
+// No part follows.
+#[no_mangle]
+pub extern "C" fn notepage_end_bundle(
+    reader: NotepageReader,
+    text: &mut [u8],
+    events: &mut [u8],
+) -> NotepageReader
+    ensures { λ r. ⌜ standOf (readerOf r) (now (text .exit)) (now (events .exit)) ≡ endOf (standOf (readerOf reader) (now (text .entry)) (now (events .entry))) ⌝ }
+{
+    let ended = page::end_bundle(reader_of(reader), text, events);
+    tell_reader(ended)
+}
+
+// Whether more is wanted, or the answer.
+#[no_mangle]
+pub extern "C" fn notepage_bundle_so_far(reader: NotepageReader) -> NotepageRead
+    ensures { λ r. ⌜ r ≡ ofProgress (readerOf reader .state .progress) ⌝ }
+{
+    let so_far = page::bundle_so_far(reader_of(reader));
+    tell_progress(so_far)
+}
+
+// Escapes a text for HTML; without bit 0 of the options only NUL is replaced.
+#[no_mangle]
+pub extern "C" fn notepage_escape(text: &[u8], options: u32, out: &mut [u8]) -> NotepageAnswer
+    ensures { λ r. ⌜ Told (Wrote (now (text .entry)) (encodeOf (hasBit 1 options) (now (text .entry))) (now (out .entry)) (now (out .exit))) ofWritten r ⌝ }
+{
+    let written = page::escape(text, has_bit(1, options), out);
+    tell_written(written)
 }
 
 // Makes a URL safe for an attribute.
 #[no_mangle]
-pub extern "C" fn page_sanitize(url: &[u8], out: &mut [u8]) -> u64
-    ensures { λ r. ⌜ Packs (now (url .entry)) (sanitizeOf (now (url .entry))) (now (out .entry)) (now (out .exit)) r ⌝ }
+pub extern "C" fn notepage_sanitize(url: &[u8], out: &mut [u8]) -> NotepageAnswer
+    ensures { λ r. ⌜ Told (Wrote (now (url .entry)) (sanitizeOf (now (url .entry))) (now (out .entry)) (now (out .exit))) ofWritten r ⌝ }
 {
     let written = page::sanitize(url, out);
-    pack(written)
+    tell_written(written)
 }
 
-// The leaf alone: no test for UTF-8, nothing cleared behind the answer.
+// The same for a link: a URL with another scheme than the six of RULES R11.5 becomes empty.
 #[no_mangle]
-pub extern "C" fn leaf_encode(text: &[u8], out: &mut [u8]) -> usize
-    ensures { λ r. ⌜ Filled (now (out .entry)) 0 (encodeOf true (now (text .entry))) (now (out .exit)) r ⌝ }
+pub extern "C" fn notepage_sanitize_link(url: &[u8], out: &mut [u8]) -> NotepageAnswer
+    ensures { λ r. ⌜ Told (Wrote (now (url .entry)) (sanitizeWithProtocolsOf linkSchemes (now (url .entry))) (now (out .entry)) (now (out .exit))) ofWritten r ⌝ }
 {
-    encode::encode(text, true, out, 0)
+    let written = page::sanitize_link(url, out);
+    tell_written(written)
 }
 
+// The same for an image, whose schemes are http and https.
 #[no_mangle]
-pub extern "C" fn leaf_sanitize(url: &[u8], out: &mut [u8]) -> usize
-    ensures { λ r. ⌜ Filled (now (out .entry)) 0 (sanitizeOf (now (url .entry))) (now (out .exit)) r ⌝ }
+pub extern "C" fn notepage_sanitize_image(url: &[u8], out: &mut [u8]) -> NotepageAnswer
+    ensures { λ r. ⌜ Told (Wrote (now (url .entry)) (sanitizeWithProtocolsOf imageSchemes (now (url .entry))) (now (out .entry)) (now (out .exit))) ofWritten r ⌝ }
 {
-    sanitize_uri::sanitize(url, out, 0)
+    let written = page::sanitize_image(url, out);
+    tell_written(written)
 }
 
-// Whether a text and its events meet the rules; the answer is the number of RULES R7.1 alone.
+// What a label is compared by.
 #[no_mangle]
-pub extern "C" fn page_check(text: &[u8], events: &[u8]) -> u32
-    ensures { λ r. ⌜ r ≡ numberOf (checkOf (now (text .entry)) (now (events .entry))) ⌝ }
+pub extern "C" fn notepage_identity(label: &[u8], out: &mut [u8]) -> NotepageAnswer
+    ensures { λ r. ⌜ Told (Wrote (now (label .entry)) (identityOf (now (label .entry))) (now (out .entry)) (now (out .exit))) ofWritten r ⌝ }
 {
-    let checked = page::check(text, events);
-    check_list::number(checked)
+    let written = page::identity(label, out);
+    tell_written(written)
 }
 
-// Builds a page, all options off and LF for a text without line endings.
-#[no_mangle]
-pub extern "C" fn page_build(text: &[u8], events: &[u8], out: &mut [u8], work: &mut [u8]) -> u64
-    ensures { λ r. ⌜ PacksBuilt (now (text .entry)) (now (events .entry)) (now (out .entry)) (now (work .entry)) (now (out .exit)) (now (work .exit)) r ⌝ }
+// ---- Answers
+
+fn tell_written(w: Written) -> NotepageAnswer
+    ensures { λ r. ⌜ r ≡ ofWritten w ⌝ }
 {
-    let built = page::build(text, events, plain_options(), out, work);
-    pack_built(built)
+    NotepageAnswer {
+        number: page::number(w),
+        value: page::value(w),
+    }
 }
 
-fn plain_options() -> Options
-    ensures { λ r. ⌜ r ≡ plain ⌝ }
+fn tell_checked(c: Checked) -> NotepageAnswer
+    ensures { λ r. ⌜ r ≡ ofChecked c ⌝ }
+{
+    NotepageAnswer {
+        number: check_list::number(c),
+        value: check_list::place(c),
+    }
+}
+
+fn tell_built(b: Built) -> NotepageAnswer
+    ensures { λ r. ⌜ r ≡ ofBuilt b ⌝ }
+{
+    NotepageAnswer {
+        number: call_build_answer::number(b),
+        value: call_build_answer::value(b),
+    }
+}
+
+fn tell_packed(p: Packed) -> NotepageAnswer
+    ensures { λ r. ⌜ r ≡ ofPacked p ⌝ }
+{
+    NotepageAnswer {
+        number: bundle_writer::number(p),
+        value: bundle_writer::value(p),
+    }
+}
+
+fn tell_read(a: Answer) -> NotepageRead
+    ensures { λ r. ⌜ r ≡ ofRead a ⌝ }
+{
+    NotepageRead {
+        number: bundle_read::number(a),
+        edition: bundle_read::edition(a),
+        value: bundle_read::value(a),
+        events: bundle_read::events_length(a),
+    }
+}
+
+fn tell_progress(p: Progress) -> NotepageRead
+    ensures { λ r. ⌜ r ≡ ofProgress p ⌝ }
+{
+    match p {
+        Progress::More => NotepageRead {
+            number: MORE,
+            edition: 0,
+            value: 0,
+            events: 0,
+        },
+        Progress::Done(a) => tell_read(a),
+    }
+}
+
+// ---- Options
+
+// The bit that stands for 1, 2, 4, ..
+fn has_bit(bit: u32, options: u32) -> bool
+    requires { ⌜ 0 < bit ⌝ }
+    ensures { λ r. ⌜ r ≡ hasBit bit options ⌝ }
+{
+    options / bit % 2 == 1
+}
+
+fn options_of(options: u32) -> Options
+    ensures { λ r. ⌜ r ≡ optionsOf options ⌝ }
 {
     Options {
-        allow_dangerous_html: false,
-        allow_dangerous_protocol: false,
-        allow_any_img_src: false,
-        ending: Ending::Lf,
-        names: Names::Html5,
+        allow_dangerous_html: has_bit(1, options),
+        allow_dangerous_protocol: has_bit(2, options),
+        allow_any_img_src: has_bit(4, options),
+        ending: ending_of(options / 256 % 4),
+        names: names_of(has_bit(65536, options)),
     }
 }
 
-// The length, or 2^63 and the refusal's number.
-fn pack_built(b: Built) -> u64
-    ensures { λ r. ⌜ r ≡ packedBuilt b ⌝ }
+fn ending_of(n: u32) -> Ending
+    ensures { λ r. ⌜ r ≡ endingOf n ⌝ }
 {
-    match b {
-        Built::Page(n) => n as u64,
-        Built::Refused(c) => pack_number(check_list::number(c)),
-        Built::WorkFull(_) => 0x8000000000000008,
-        Built::PageFull(_) => 0x8000000000000009,
+    if n == 1 {
+        return Ending::Cr;
     }
+    if n == 2 {
+        return Ending::CrLf;
+    }
+    Ending::Lf
 }
 
-fn pack_number(n: u32) -> u64
-    ensures { λ r. ⌜ r ≡ 2 ^ 63 + n ⌝ }
+fn names_of(html4: bool) -> Names
+    ensures { λ r. ⌜ r ≡ namesOf html4 ⌝ }
 {
-    0x8000000000000000 + n as u64
+    if html4 {
+        return Names::Html4;
+    }
+    Names::Html5
 }
 
-// Reads a bundle; the answer is the number of RULES R7.1 alone.
-#[no_mangle]
-pub extern "C" fn leaf_read_bundle(bundle: &[u8], text: &mut [u8], events: &mut [u8]) -> u32
-    ensures { λ r. ⌜ HasNumber (now (bundle .entry)) (now (text .entry)) (now (events .entry)) (now (text .exit)) (now (events .exit)) r ⌝ }
-{
-    let answer = page::read_bundle(bundle, text, events);
-    bundle_read::number(answer)
-}
+// ---- The reader's state
 
-// Reads a bundle in parts of so many bytes, then says the end; the answer is its number, or 255, which it never is.
-#[no_mangle]
-pub extern "C" fn leaf_read_parts(
-    bundle: &[u8],
-    size: usize,
-    text: &mut [u8],
-    events: &mut [u8],
-) -> u32
-    ensures { λ r. ⌜ HasNumberLate (now (bundle .entry)) (now (text .entry)) (now (events .entry)) (now (text .exit)) (now (events .exit)) r ⌝ }
+fn reader_of(r: NotepageReader) -> Reader
+    ensures { λ s. ⌜ s ≡ readerOf r ⌝ }
 {
-    let fed = feed_all(bundle, size, text, events);
-    let ended = page::end_bundle(fed, text, events);
-    let so_far = page::bundle_so_far(ended);
-    let Progress::Done(answer) = so_far else {
-        return 255;
+    let answer = r.answer;
+    let rest = r.rest;
+    let state = State {
+        known: known_of(r),
+        held: r.held,
+        over: r.over != 0,
+        progress: progress_of(r.done, answer),
     };
-    bundle_read::number(answer)
+    Reader { state, rest }
 }
 
-// Parts of so many bytes, a byte where it is none.
-fn feed_all(bundle: &[u8], size: usize, text: &mut [u8], events: &mut [u8]) -> Reader
-    ensures { λ r. ⌜ Cut (now (bundle .entry)) (length (now (bundle .entry))) (now (text .entry)) (now (events .entry)) (now (text .exit)) (now (events .exit)) r ⌝ }
+fn known_of(r: NotepageReader) -> Known
+    ensures { λ k. ⌜ k ≡ knownOf r ⌝ }
 {
-    let mut reader = page::bundle_reader();
-    let mut at = 0;
-    while at < bundle.len() {
-        let end = at + bundle_block::least(at_least_one(size), bundle.len() - at);
-        reader = page::feed_bundle(reader, &bundle[at..end], text, events);
-        at = end;
+    Known {
+        begun: r.begun != 0,
+        edition: r.edition,
+        text: r.text,
+        events: r.events,
+        text_came: r.text_came,
+        events_came: r.events_came,
     }
-    reader
 }
 
-fn at_least_one(n: usize) -> usize
-    ensures { λ r. ⌜ 0 < r ⌝ }
+fn progress_of(done: u32, a: NotepageRead) -> Progress
+    ensures { λ r. ⌜ r ≡ progressOf done a ⌝ }
 {
-    if n == 0 {
-        return 1;
+    if done == 0 {
+        return Progress::More;
     }
-    n
+    Progress::Done(answer_of(a))
 }
 
-// The length, or 2^63 and the refusal's number.
-fn pack(w: call_text_answer::Written) -> u64
-    ensures { λ r. ⌜ r ≡ packed w ⌝ }
+fn answer_of(a: NotepageRead) -> Answer
+    ensures { λ r. ⌜ r ≡ answerOf a ⌝ }
 {
-    match w {
-        call_text_answer::Written::Length(n) => n as u64,
-        call_text_answer::Written::TooLong => 0x8000000000000001,
-        call_text_answer::Written::NotUtf8 => 0x8000000000000002,
-        call_text_answer::Written::NoRoom => 0x8000000000000009,
+    if a.number == 0 {
+        return Answer::Bundle {
+            text: a.value,
+            events: a.events,
+            edition: a.edition,
+        };
+    }
+    Answer::Refused(refusal_of(a.number, a.value))
+}
+
+fn refusal_of(number: u32, place: usize) -> Refusal
+    ensures { λ r. ⌜ r ≡ refusalOf number place ⌝ }
+{
+    if number == 1 {
+        return Refusal::Short;
+    }
+    if number == 11 {
+        return Refusal::BadCheck(place);
+    }
+    if number == 12 {
+        return Refusal::OtherEdition(place);
+    }
+    Refusal::Broken(place)
+}
+
+fn tell_reader(r: Reader) -> NotepageReader
+    ensures { λ s. ⌜ readerOf s ≡ r ⌝ }
+{
+    let state = r.state;
+    let known = state.known;
+    let progress = state.progress;
+    let rest = r.rest;
+    NotepageReader {
+        begun: known.begun as u32,
+        edition: known.edition,
+        text: known.text,
+        events: known.events,
+        text_came: known.text_came,
+        events_came: known.events_came,
+        over: state.over as u32,
+        done: is_done(progress) as u32,
+        held: state.held,
+        answer: tell_progress(progress),
+        rest,
+    }
+}
+
+fn is_done(p: Progress) -> bool
+    ensures { λ r. ⌜ r ≡ isDone p ⌝ }
+{
+    match p {
+        Progress::More => false,
+        Progress::Done(_) => true,
     }
 }
