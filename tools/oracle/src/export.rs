@@ -48,11 +48,14 @@ pub(crate) use compile_options;
 
 /// The records of a note, or nothing where the crate's parser panics.
 pub fn export(note: &str) -> Option<Vec<Record>> {
-    caught(|| {
-        let options = parse_options();
-        let (events, _) = parser::parse(note, &options).expect("only MDX has errors");
-        records(&events)
-    })
+    caught(|| parsed(note))
+}
+
+/// The records of a note. The crate's parser may panic.
+pub fn parsed(note: &str) -> Vec<Record> {
+    let options = parse_options();
+    let (events, _) = parser::parse(note, &options).expect("only MDX has errors");
+    records(&events)
 }
 
 /// The crate's page of a note, or nothing where the crate panics.
