@@ -1,0 +1,224 @@
+//! Every call on the samples of the repository, and the header's numbers.
+use notepage::*;
+use std::fs;
+use std::path::{Path, PathBuf};
+
+fn repository() -> PathBuf {
+    Path::new(env!("CARGO_MANIFEST_DIR")).join("../..")
+}
+
+fn file(name: &str) -> Vec<u8> {
+    let path = repository().join(name);
+    fs::read(&path).unwrap_or_else(|error| panic!("{}: {error}", path.display()))
+}
+
+fn event(kind: u8, name: u8, from: u32, to: u32) -> Vec<u8> {
+    let mut record = vec![kind, name, 0, 0];
+    record.extend(from.to_le_bytes());
+    record.extend(to.to_le_bytes());
+    record.extend([0; 8]);
+    record
+}
+
+fn element(name: u8, from: u32, to: u32, inside: &[Vec<u8>]) -> Vec<u8> {
+    [event(0, name, 0, 0), inside.concat(), event(1, name, from, to)].concat()
+}
+
+/// A paragraph of data.
+fn paragraph(to: u32) -> Vec<u8> {
+    element(12, 0, to, &[element(5, 0, to, &[])])
+}
+
+fn refused(number: u32, place: usize) -> Refusal {
+    Refusal { number, place }
+}
+
+#[test]
+fn the_sample_has_its_page() {
+    let mut builder = Builder::new(Options::default());
+    let page = builder.build_bundle(&file("samples/note.bundle")).unwrap();
+    assert_eq!(page.as_bytes(), file("crates/notepage/stdout"));
+}
+
+/// The places are those of docs/REFUSALS.md.
+#[test]
+fn each_refused_sample_is_refused() {
+    let places = [(2, 0), (3, 2), (4, 1), (5, 5), (6, 384), (7, 1), (8, 5), (9, 8), (10, 0), (11, 3), (12, 2)];
+    let mut builder = Builder::new(Options::default()).with_most_room(65_536);
+    for (number, place) in places {
+        let bundle = file(&format!("samples/refused-{number:02}.bundle"));
+        assert_eq!(builder.build_bundle(&bundle), Err(refused(number, place)));
+    }
+}
+
+#[test]
+fn a_refusal_leaves_zeros_and_so_does_what_is_behind_a_page() {
+    let (mut out, mut work) = ([7; 20], [7; LEAST_WORK]);
+    assert_eq!(build(b"a", &paragraph(1), Options::default(), &mut out, &mut work), Ok("<p>a</p>"));
+    assert_eq!(&out, b"<p>a</p>\0\0\0\0\0\0\0\0\0\0\0\0");
+    assert!(work.iter().all(|&byte| byte == 0));
+
+    let mut out = [7; 7];
+    assert_eq!(build(b"a", &paragraph(1), Options::default(), &mut out, &mut work), Err(refused(9, 3)));
+    assert_eq!(out, [0; 7]);
+}
+
+#[test]
+fn the_builder_lends_more_room_where_a_page_needs_it() {
+    let bundle = file("samples/refused-09.bundle");
+    let mut builder = Builder::new(Options::default());
+    assert!(builder.build_bundle(&bundle).unwrap().len() > 65_536);
+    assert_eq!(builder.build(b"a", &paragraph(1)), Ok("<p>a</p>"), "and is used again");
+    let mut small = Builder::new(Options::default()).with_most_room(0);
+    assert_eq!(small.build(b"", &[]), Ok(""));
+    assert_eq!(small.build(b"a", &paragraph(1)).unwrap_err().number, 9);
+}
+
+#[test]
+fn each_option_reaches_the_page() {
+    let page = |text: &str, events: &[u8], options| {
+        let mut builder = Builder::new(options);
+        builder.build(text.as_bytes(), events).unwrap().to_string()
+    };
+    let off = Options::default();
+    let html = element(35, 0, 3, &[element(36, 0, 3, &[])]);
+    assert_eq!(page("<b>", &html, off), "&lt;b&gt;");
+    assert_eq!(page("<b>", &html, Options { allow_dangerous_html: true, ..off }), "<b>");
+
+    let link = |name| {
+        element(
+            12,
+            0,
+            6,
+            &[element(
+                name,
+                0,
+                6,
+                &[
+                    element(47, 0, 3, &[element(48, 1, 2, &[element(5, 1, 2, &[])])]),
+                    element(49, 0, 6, &[element(50, 3, 6, &[element(5, 3, 6, &[])])]),
+                ],
+            )],
+        )
+    };
+    assert_eq!(page("[a]x:y", &link(45), off), "<p><a href=\"\">a</a></p>");
+    let any = Options { allow_dangerous_protocol: true, ..off };
+    assert_eq!(page("[a]x:y", &link(45), any), "<p><a href=\"x:y\">a</a></p>");
+    assert_eq!(page("[a]x:y", &link(46), off), "<p><img src=\"\" alt=\"a\" /></p>");
+    let source = Options { allow_any_img_src: true, ..off };
+    assert_eq!(page("[a]x:y", &link(46), source), "<p><img src=\"x:y\" alt=\"a\" /></p>");
+
+    let two = [paragraph(1), paragraph(1)].concat();
+    for (ending, written) in [(Ending::Lf, "\n"), (Ending::Cr, "\r"), (Ending::CrLf, "\r\n")] {
+        assert_eq!(page("a", &two, Options { ending, ..off }), format!("<p>a</p>{written}<p>a</p>"));
+    }
+    let name = element(12, 0, 6, &[element(7, 0, 6, &[element(8, 0, 1, &[]), element(11, 1, 5, &[])])]);
+    assert_eq!(page("&lang;", &name, Options { names: Names::Html4, ..off }), "<p>\u{2329}</p>");
+    assert_eq!(page("&lang;", &name, Options { names: Names::Html5, ..off }), "<p>\u{27E8}</p>");
+}
+
+#[test]
+fn a_check_says_yes_or_the_refusal() {
+    assert_eq!(check(b"a", &paragraph(1)), Ok(()));
+    assert_eq!(check(b"a", &paragraph(2)), Err(refused(3, 2)));
+    assert_eq!(check(&[0; MOST_TEXT + 1], &[]), Err(refused(1, 0)));
+    assert_eq!(check(b"", &[0; RECORD + 1]), Err(refused(1, 0)));
+    assert_eq!(check(b"", &[0; (MOST_EVENTS + 1) * RECORD]), Err(refused(1, 0)));
+}
+
+#[test]
+fn a_bundle_reads_as_it_was_written_whole_and_in_parts() {
+    let mut out = vec![9; MOST_BUNDLE];
+    let written = write_bundle(b"abc", &paragraph(3), u32::MAX, &mut out).unwrap().to_vec();
+    assert!(out[written.len()..].iter().all(|&byte| byte == 0));
+    let (mut text, mut events) = (vec![1; LEAST_READ], vec![1; LEAST_READ]);
+    let wanted = Bundle { text: b"abc", events: &paragraph(3), edition: u32::MAX };
+    assert_eq!(read_bundle(&written, &mut text, &mut events), Ok(wanted));
+    for size in [1, 7, 511, 512, 513, written.len()] {
+        let mut reader = BundleReader::new(&mut text, &mut events);
+        assert!(written.chunks(size).all(|part| reader.feed(part).is_none()));
+        assert_eq!(reader.end(), Ok(wanted));
+    }
+    assert_eq!(write_bundle(b"abc", &paragraph(3), 0, &mut out[..BLOCK]), Err(refused(9, 0)));
+    assert_eq!(write_bundle(b"", &[0; 19], 0, &mut out), Err(refused(1, 0)));
+    assert_eq!(read_bundle(&written, &mut text[1..], &mut events), Err(refused(1, 0)));
+    let mut reader = BundleReader::new(&mut text[1..], &mut events);
+    reader.feed(&written);
+    assert_eq!(reader.end(), Err(refused(1, 0)));
+}
+
+#[test]
+fn a_block_of_another_edition_is_refused_as_soon_as_it_is_there() {
+    let bundle = file("samples/refused-12.bundle");
+    let (mut text, mut events) = (vec![1; LEAST_READ], vec![1; LEAST_READ]);
+    let mut reader = BundleReader::new(&mut text, &mut events);
+    assert_eq!(reader.feed(&bundle[..3 * BLOCK - 1]), None);
+    assert_eq!(reader.feed(&bundle[3 * BLOCK - 1..]), Some(refused(12, 2)));
+    assert_eq!(reader.end(), Err(refused(12, 2)));
+    assert!(text.iter().chain(&events).all(|&byte| byte == 0));
+}
+
+#[test]
+fn texts_are_made_safe() {
+    let mut out = [0; 100];
+    assert_eq!(escape(b"<\"&\0\">", true, &mut out), Ok("&lt;&quot;&amp;\u{FFFD}&quot;&gt;"));
+    assert_eq!(escape(b"<\0>", false, &mut out), Ok("<\u{FFFD}>"));
+    for (url, made) in [("%zz", "%zz"), ("%%20", "%25%20"), ("%2", "%252"), ("", ""), ("é", "%C3%A9")] {
+        assert_eq!(sanitize(url.as_bytes(), &mut out), Ok(made));
+    }
+    assert_eq!(sanitize_link(b"mailto:x", &mut out), Ok("mailto:x"));
+    assert_eq!(sanitize_image(b"HTTP:x", &mut out), Ok("HTTP:x"));
+    assert_eq!(identity(b" A\t b ", &mut out), Ok(&b"A B"[..]));
+    assert_eq!(escape(b"\xff", true, &mut out), Err(refused(2, 0)));
+    assert_eq!(sanitize(b"a b", &mut out[..4]), Err(refused(9, 0)));
+    assert_eq!(sanitize(&[b'a'; MOST_TEXT + 1], &mut out), Err(refused(1, 0)));
+}
+
+#[test]
+fn threads_do_not_meet() {
+    let (bundle, page) = (file("samples/note.bundle"), file("crates/notepage/stdout"));
+    std::thread::scope(|scope| {
+        for _ in 0..8 {
+            scope.spawn(|| {
+                let mut builder = Builder::new(Options::default());
+                (0..20).for_each(|_| assert_eq!(builder.build_bundle(&bundle).unwrap().as_bytes(), page));
+            });
+        }
+    });
+}
+
+#[test]
+fn a_place_is_found_in_the_text() {
+    let text = "\u{e4}\r\nb\rcd\n".as_bytes();
+    let at = |place| position(text, &element(5, 7, 8, &[]), place).map(|at| (at.line, at.column));
+    assert_eq!((at(0), at(1), at(2), at(3)), (Some((3, 2)), Some((3, 2)), Some((4, 1)), None));
+    assert_eq!(position(text, &event(0, 12, 0, 0), 0), None, "never left");
+    assert_eq!(position(b"", &element(5, 7, 8, &[]), 0), None, "outside the text");
+}
+
+/// The constants here are the header's, and every function that it declares is called here.
+#[test]
+fn the_header_says_the_same() {
+    let header = String::from_utf8(file("include/notepage.h")).unwrap();
+    let constant = |name: &str| -> usize {
+        let value = header.split(&format!("#define NOTEPAGE_{name} ")).nth(1).unwrap_or_else(|| panic!("no {name}"));
+        value.split(['u', ' ', '\n']).next().unwrap().parse().unwrap()
+    };
+    let ours = [
+        ("MOST_TEXT", MOST_TEXT),
+        ("RECORD", RECORD),
+        ("MOST_EVENTS", MOST_EVENTS),
+        ("LEAST_WORK", LEAST_WORK),
+        ("LEAST_READ", LEAST_READ),
+        ("BLOCK", BLOCK),
+        ("MOST_BUNDLE", MOST_BUNDLE),
+        ("VERSION", version() as usize),
+    ];
+    ours.iter().for_each(|&(name, value)| assert_eq!(constant(name), value, "{name}"));
+    let raw = include_str!("../src/raw.rs");
+    for line in header.lines().filter(|line| line.contains("notepage_") && line.contains('(')) {
+        let name = line.split('(').next().unwrap().rsplit([' ', '*']).next().unwrap();
+        let declared = !line.starts_with(' ') && !line.starts_with("static") && name.starts_with("notepage_");
+        assert!(!declared || raw.contains(&format!("fn {name}(")), "{name}");
+    }
+}
