@@ -10,7 +10,6 @@ use bundle_parts::Reader;
 use bundle_read::Answer;
 use call_build_answer::Built;
 use character_reference::Names;
-use libc::STDERR_FILENO;
 use libc::STDIN_FILENO;
 use libc::STDOUT_FILENO;
 use machine::Ending;
@@ -214,23 +213,35 @@ fn shown_of(b: Built) -> Shown
 fn show(s: Shown, out: &[u8]) {
     match s {
         Shown::Unread => {}
-        Shown::Refused(number, place) => refuse(number, place),
+        Shown::Refused(number, place) => told(refuse(number, place)),
         Shown::Page(n) => {
             if n <= out.len() {
-                io::write_all(STDOUT_FILENO, &out[0..n]);
+                told(io::write_all(STDOUT_FILENO, &out[0..n]));
             }
         }
     }
 }
 
-fn refuse(number: u32, place: usize) {
-    io::write_all(STDOUT_FILENO, b"refused ");
-    io::print_decimal(STDOUT_FILENO, number as u64);
-    io::write_all(STDOUT_FILENO, b" at ");
-    io::print_decimal(STDOUT_FILENO, place as u64);
-    io::write_all(STDOUT_FILENO, b"\n");
-    io::write_all(
-        STDERR_FILENO,
-        b"docs/REFUSALS.md says what to do about it\n",
-    );
+// Says on standard error where not all was written: a program has no exit status.
+fn told(written: bool) {
+    if !written {
+        os::fail(b"not all was written on standard output");
+    }
+}
+
+// The line of a refusal; whether all of it was written.
+fn refuse(number: u32, place: usize) -> bool {
+    if !io::write_all(STDOUT_FILENO, b"refused ") {
+        return false;
+    }
+    if !io::print_decimal(STDOUT_FILENO, number as u64) {
+        return false;
+    }
+    if !io::write_all(STDOUT_FILENO, b" at ") {
+        return false;
+    }
+    if !io::print_decimal(STDOUT_FILENO, place as u64) {
+        return false;
+    }
+    io::write_all(STDOUT_FILENO, b"\n")
 }
