@@ -106,7 +106,7 @@ pub fn build<'a>(
     };
     let page = &out[..answer.length()?];
     // SAFETY: `Builds`, the contract of a build, says that these bytes are a page that the definition's run gives, and
-    // the theorem `run-utf8` (crates/clean/proofs/Page.antt) that each such page is UTF-8, whatever the text and the
+    // the theorem `run-utf8` (crates/machine_clean/proofs/Page.antt) that each such page is UTF-8, whatever the text and the
     // events.
     Ok(unsafe { core::str::from_utf8_unchecked(page) })
 }
@@ -123,7 +123,7 @@ pub fn escape<'a>(text: &[u8], encoding: bool, out: &'a mut [u8]) -> Result<&'a 
         unsafe { raw::notepage_escape(text.as_ptr(), text.len(), u32::from(encoding), out.as_mut_ptr(), out.len()) };
     let escaped = &out[..answer.length()?];
     // SAFETY: `Wrote` says that the text is UTF-8 where there is an answer, and that these bytes are `encodeOf` of it:
-    // the theorem `encoded` (crates/clean/proofs/Encoded.antt) says that they are UTF-8 then.
+    // the theorem `encoded` (crates/machine_clean/proofs/Encoded.antt) says that they are UTF-8 then.
     Ok(unsafe { core::str::from_utf8_unchecked(escaped) })
 }
 
@@ -135,7 +135,7 @@ fn sanitized<'a>(call: Sanitizes, url: &[u8], out: &'a mut [u8]) -> Result<&'a s
     let answer = unsafe { call(url.as_ptr(), url.len(), out.as_mut_ptr(), out.len()) };
     let made = &out[..answer.length()?];
     // SAFETY: `Wrote` says that the URL is UTF-8 where there is an answer, and what these bytes are of it: the theorem
-    // `url-valid` (crates/clean/proofs/Urls.antt) says that they are UTF-8 then, with protocols and without.
+    // `url-valid` (crates/machine_clean/proofs/Urls.antt) says that they are UTF-8 then, with protocols and without.
     Ok(unsafe { core::str::from_utf8_unchecked(made) })
 }
 
