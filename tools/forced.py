@@ -1,8 +1,8 @@
 #!/usr/bin/env python3
-"""Forces each branch of the handlers one way and the other, and says which of these the pages of machine_pages notice: forced.py SCRATCH_FOLDER.
-All are tried in one check of a copy. There each question of a handler has a number, and the options say which one is forced; the pages are
-data in a crate of their own. `none` is the definition as it stands, which every page must bear out. Run `rt check` before: only the copy's
-own crates are proved then."""
+"""Forces each branch of the handlers one way and the other, and says which of these the pages of machine_pages notice:
+forced.py SCRATCH_FOLDER. All are tried in one check of a copy. There each question of a handler has a number, and the
+options say which one is forced; the pages are data in a crate of their own. `none` is the definition as it stands,
+which every page must bear out. Run `rt check` before: only the copy's own crates are proved then."""
 import pathlib, re, shutil, subprocess, sys
 
 root = pathlib.Path(__file__).resolve().parent.parent
@@ -110,8 +110,8 @@ def copy():
 
 def number_questions():
     """Question k is answered yes where the options force 2 k + 1, and no where they force 2 k + 2."""
-    for file in ('OnText', 'OnFlow', 'OnList', 'OnTable', 'OnMedia'):
-        path = crates / f'machine/specs/{file}.antt'
+    for path in sorted((crates / 'machine/specs').glob('On*.antt')):
+        file = path.stem
         lines, handler = path.read_text().split('\n'), ''
         for i, line in enumerate(lines):
             if line.startswith(('use ', '--', 'unfoldable')):
@@ -124,6 +124,8 @@ def number_questions():
                 sites.append((file, f'{handler}: {match[0]}'))
                 return f'whether (forced {len(sites) - 1} (is alt)) nothing (put {match[1]})'
             lines[i] = re.sub(r'\btag ("[^"]*")', tagged, re.sub(r'\b(whether|when|unless) (\(is \w+\)|\w+)', asked, line))
+        if not any(site == file for site, _ in sites):
+            continue
         text = re.sub(r'(Test\.\{)', r'\1forced, ', '\n'.join(lines), count=1)
         needed = re.search(r'Command\.\{([^}]*)\}', text)[1]
         added = ''.join(word + ', ' for word in ('nothing', 'whether') if word in text and word not in needed.split(', '))
@@ -132,7 +134,7 @@ def number_questions():
 
 def force():
     write('machine/proofs/Lib.antt', 'pub mod Running\npub mod Answers\n')
-    for name in ('CodeText', 'Examples', 'Outcomes'):
+    for name in ('CodeText', 'Examples', 'Outcomes', 'Pushes'):
         (crates / f'machine/proofs/{name}.antt').unlink()
     change('machine/src/lib.rt', ('pub struct Options {\n', 'pub struct Options {\n    pub forced: u64,\n'))
     change('machine/specs/Test.antt', ('  isEmptyItem : Test\n', '  isEmptyItem : Test\n  forced : ℕ → Test → Test\n'),
@@ -163,8 +165,11 @@ def write_cases():
 
 def write_proofs():
     """A theorem for each: some page shows it. Those of its own kind are looked at first."""
-    near = {'OnText': 'OnCodeText OnParagraph OnHtml OnBreak OnEmphasis OnAutolink OnImage OnListItem OnDefinition', 'OnList': 'OnListItem', 'OnTable': 'OnTable',
-            'OnFlow': 'OnParagraph OnHeading OnCodeFenced OnCodeIndented OnBlockQuote OnContainer OnListItem', 'OnMedia': 'OnLink OnImage'}
+    near = {
+        'OnText': 'OnParagraph OnHtml OnListItem OnDefinition', 'OnInline': 'OnCodeText OnBreak OnEmphasis OnAutolink OnImage',
+        'OnFlow': 'OnParagraph OnCodeFenced OnCodeIndented OnBlockQuote OnContainer OnListItem', 'OnHeading': 'OnHeading',
+        'OnSetext': 'OnHeading', 'OnList': 'OnListItem', 'OnTable': 'OnTable', 'OnCell': 'OnTable', 'OnMedia': 'OnLink OnImage',
+    }
     write('forced/src/lib.rt', '// Forced branches.\n')
     write('forced/proofs/Lib.antt', 'mod Noticed\nmod Forced\n')
     write('forced/proofs/Noticed.antt', NOTICED)
@@ -172,7 +177,7 @@ def write_proofs():
     lines += ''.join(f'use Rattle.cases.specs.{page} as {page}\n' for page in pages)
     unfolding = 'unfolding all ' + ' '.join(f'{page}.cases' for page in pages)
     for number in range(2 * len(sites) + 1):
-        first = near[sites[(number - 1) // 2][0]].split() if number else []
+        first = near.get(sites[(number - 1) // 2][0], '').split() if number else []
         order = ' ++ '.join(f'{page}.cases' for page in first + [page for page in pages if page not in first])
         lines += f'\nm{number} : T ({"" if number else "not "}(noticed {number} ({order})))\n{unfolding}\nm{number} = tt\n'
     write('forced/proofs/Forced.antt', lines)
