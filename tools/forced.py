@@ -90,7 +90,8 @@ def write(path, lines):
 
 def copy():
     """The crate machine with what it needs, and what is proved of that."""
-    needs = dict(line.split(':') for line in (root / 'crates.txt').read_text().splitlines() if re.match(r'\w+:', line))
+    lines = (line.partition('#')[0] for line in (root / 'crates.txt').read_text().splitlines())
+    needs = dict(line.split(':') for line in lines if re.match(r'\w+:', line))
     wanted, more = set(), ['machine']
     while more:
         name = more.pop()
