@@ -7,6 +7,7 @@ use lib.Dec.{eqb}
 use lib.ListN.{length}
 use Rattle.lent.specs.Bytes.{if_then_else_}
 use Rattle.lent.specs.Fill.{zeros}
+use Rattle.regions.specs.Sizes.{workSize}
 use Rattle.event.specs.declared.EventIndex.{EventIndex}
 use Rattle.event.specs.Event.{eventsOf}
 use Rattle.check_rules.specs.Rules.{Meets}
@@ -83,11 +84,11 @@ module _ {text events : List ℕ} {o : Options} {out work : List ℕ} where
       (a, b, p .cleared ∙ sym (q .cleared))
 
   -- on a note that meets the rules, with work bytes enough, the answer and the output are the run's, which is a page, 8 or 9
-  pub exactly : {out′ work′ : List ℕ} {r : Built} → Meets text events → 49152 ≤ length work → Builds text events o out work out′ work′ r
+  pub exactly : {out′ work′ : List ℕ} {r : Built} → Meets text events → workSize ≤ length work → Builds text events o out work out′ work′ r
       → Given (runOf text o (length out) (eventsOf events))
       × (r ≡ answerOf (runOf text o (length out) (eventsOf events)))
       × (out′ ≡ bytesOf (length out) (runOf text o (length out) (eventsOf events)))
   exactly {out′} {r = r} m h p =
       let c = yes-meets text events .1 m in
-      let y : checkedOf text events (length work) ≡ Yes = rw (le-ltb (length work) 49152 h) c in
+      let y : checkedOf text events (length work) ≡ Yes = rw (le-ltb (length work) workSize h) c in
       (given text events o (length out) c, answer text events o (length out) (length work) out′ r (p .ended) ∙ rw y, bytes text events o (length out) (length work) out′ r (p .ended) ∙ rw y)

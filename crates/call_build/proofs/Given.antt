@@ -15,7 +15,7 @@ use Rattle.machine.specs.State.{State}
 use Rattle.machine.specs.Turn.{Turn}
 use Rattle.machine.specs.Handlers.{commandOf, handle}
 use Rattle.machine.specs.Test.{isEmpty}
-use Rattle.machine.specs.Totals.{captured, held, kept, over}
+use Rattle.machine.specs.Totals.{captured, held, kept, over, mostTotal}
 use Rattle.machine.specs.Section.{footnoteSection}
 use Rattle.machine.specs.Run.{Answer, page, refused, sectionEnd, finish, runFrom, runWith, runOf}
 use Rattle.machine_bounded.specs.Within.{Goes, ends, turns}
@@ -37,7 +37,7 @@ module _ (room n : ℕ) where
   -- within the limits it goes on
   limited : (u : State) (place : ℕ) (rest : Answer) → Given rest → Given (elim (over room u) [ some number ↦ refused number place | none ↦ rest ])
   unfolding over
-  limited u place rest g = on (ltb 16384 (captured u) || ltb 16384 (held u) || ltb 16384 (kept u)) (ltb room (length (u .page)))
+  limited u place rest g = on (ltb mostTotal (captured u) || ltb mostTotal (held u) || ltb mostTotal (kept u)) (ltb room (length (u .page)))
     where
       on : (x y : Bool) → Given (elim (limit x y) [ some number ↦ refused number place | none ↦ rest ])
       on true y = work-full place

@@ -9,6 +9,7 @@ use lib.Dec.{ltb}
 use lib.ListN.{length}
 use Rattle.lent.specs.Bytes.{if_then_else_}
 use Rattle.lent.specs.Fill.{zeros}
+use Rattle.regions.specs.Sizes.{workSize}
 use Rattle.check_list.specs.declared.Checked.{Checked}
 use Rattle.check_list.specs.declared.Checked.the-variants.{Yes, WrongLength}
 use Rattle.check_list.specs.Checked.{checkOf, Checks}
@@ -24,20 +25,20 @@ use Rattle.call_build_answer.specs.Private.{Clears}
 -- ---- refusals 1 to 7
 
 module _ (text events : List ℕ) (work : ℕ) where
-  pub short-work : work < 49152 → WrongLength ≡ checkedOf text events work
-  short-work h = rw (lt-ltb work 49152 h)
+  pub short-work : work < workSize → WrongLength ≡ checkedOf text events work
+  short-work h = rw (lt-ltb work workSize h)
 
-  pub by-checker : {c : Checked} → 49152 ≤ work → Checks text events c → c ≡ checkedOf text events work
-  by-checker h p = p .answer ∙ rw (le-ltb work 49152 h)
+  pub by-checker : {c : Checked} → workSize ≤ work → Checks text events c → c ≡ checkedOf text events work
+  by-checker h p = p .answer ∙ rw (le-ltb work workSize h)
 
-  pub passed : checkedOf text events work ≡ Yes → (49152 ≤ work) × (checkOf text events ≡ Yes)
-  passed p = on (ltb work 49152) refl p
+  pub passed : checkedOf text events work ≡ Yes → (workSize ≤ work) × (checkOf text events ≡ Yes)
+  passed p = on (ltb work workSize) refl p
     where
-      on : (x : Bool) → ltb work 49152 ≡ x → (if x then WrongLength else checkOf text events) ≡ Yes → (49152 ≤ work) × (checkOf text events ≡ Yes)
+      on : (x : Bool) → ltb work workSize ≡ x → (if x then WrongLength else checkOf text events) ≡ Yes → (workSize ≤ work) × (checkOf text events ≡ Yes)
       on true e p = let z : _≡_ {A = ℕ} 0 1 = cc in absurd (omega arith)
-      on false e p = (ltb-false work 49152 e, p)
+      on false e p = (ltb-false work workSize e, p)
 
-pub enough : (text events work : List ℕ) {c : Checked} → c ≡ checkedOf text events (length work) → c ≡ Yes → 49152 ≤ length work
+pub enough : (text events work : List ℕ) {c : Checked} → c ≡ checkedOf text events (length work) → c ≡ Yes → workSize ≤ length work
 enough text events work p q = passed text events (length work) (sym p ∙ q) .0
 
 -- ---- what is left

@@ -6,6 +6,7 @@ use lib.Dec.{ltb}
 use lib.ListN.{length, take}
 use Rattle.lent.specs.Bytes.{if_then_else_}
 use Rattle.lent.specs.Fill.{zeros}
+use Rattle.regions.specs.Sizes.{workSize}
 use Rattle.check_list.specs.declared.Checked.{Checked}
 use Rattle.check_list.specs.declared.Checked.the-variants.{WrongLength}
 use Rattle.check_list.specs.Checked as C
@@ -28,7 +29,7 @@ valueOf (PageFull i) = i .0
 
 -- refusals 1 to 7: work of fewer than 49,152 bytes has a wrong length too
 abbrev pub checkedOf : (text events : List ℕ) → (work : ℕ) → Checked
-checkedOf text events work = if ltb work 49152 then WrongLength else C.checkOf text events
+checkedOf text events work = if ltb work workSize then WrongLength else C.checkOf text events
 
 -- zeros from a place on
 abbrev pub clearedFrom : (from : ℕ) → List ℕ → List ℕ

@@ -16,7 +16,7 @@ pub enum Built {
 }
 
 // The fewest work bytes: three regions of 16,384.
-pub const LEAST_WORK: usize = 49152;
+pub const LEAST_WORK: usize = regions::WORK;
 
 // An answer's number (RULES R7.1).
 pub fn number(b: Built) -> u32

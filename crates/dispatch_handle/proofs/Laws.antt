@@ -4,6 +4,7 @@ use mathlib.Core.Bool.{Bool, true, false, not}
 use mathlib.Core.List.{List, _++_}
 use Prim.Native.Nat.{ℕ, zero-le, _≤_}
 use lib.ListN.{length, take, drop}
+use Rattle.regions.specs.Sizes.{regionSize}
 use Rattle.event.specs.declared.Event.{Event}
 use Rattle.event.specs.Event.{isEnter, eventAt}
 use Rattle.machine.specs.declared.Options.{Options}
@@ -75,8 +76,8 @@ is-quiet e {x} w z = not-not x (isQuiet (commandFor e)) w ∙ ap not z
 
 module _ {text events : List ℕ} {o : Options} {i : ℕ} {e : Event} {b : Whole} {x : Bool} (p : e ≡ eventAt events i) (h : x ≡ not (isQuiet (commandFor e))) where
   -- the context's part of the work bytes is lent
-  pub turned-quietly : {r : Context} {work starts out captures′ starts′ out′ : List ℕ} {t : Tables} → x ≡ false → Quietly text events o i e (b .context) (take 16384 work) starts out r captures′ starts′ out′
-      → length captures′ ≡ length (take 16384 work) → length starts′ ≡ length starts → Turned text events o i b (world work out starts t) (withContext r b) (world (captures′ ++ drop 16384 work) out′ starts′ t)
+  pub turned-quietly : {r : Context} {work starts out captures′ starts′ out′ : List ℕ} {t : Tables} → x ≡ false → Quietly text events o i e (b .context) (take regionSize work) starts out r captures′ starts′ out′
+      → length captures′ ≡ length (take regionSize work) → length starts′ ≡ length starts → Turned text events o i b (world work out starts t) (withContext r b) (world (captures′ ++ drop regionSize work) out′ starts′ t)
   turned-quietly {work = work} {starts} {out} {t = t} z k l m =
       let q = is-quiet e h z in
       record { turned = rw (← p) (needs-less (λ a. a .roomy) (lifts-turns {w = world work out starts t} q (k .quietly (sym p) .dispatches q) refl refl refl l m)) }

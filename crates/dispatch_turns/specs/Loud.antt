@@ -3,6 +3,7 @@ use mathlib.Core.Path.{_≡_}
 use mathlib.Core.Bool.{Bool, false}
 use mathlib.Core.List.{List}
 use Prim.Native.Nat.{ℕ, _≤_}
+use Rattle.regions.specs.Sizes.{regionSize}
 use Rattle.event.specs.declared.Event.{Event}
 use Rattle.event.specs.Event.{isEnter, eventAt}
 use Rattle.machine.specs.declared.Options.{Options}
@@ -20,7 +21,7 @@ world work out starts tables = record { work = work; out = out; starts = starts;
 -- there is room everywhere
 pub record Spare (b : Whole) : Type 0 where
   pub roomy : Roomy b
-  pub kept : b .kept .end ≤ 16384
+  pub kept : b .kept .end ≤ regionSize
 
 -- a turn of this event of this text, under these options
 pub record Shows (text : List ℕ) (o : Options) (e : Event) (t : Turn) : Type 0 where

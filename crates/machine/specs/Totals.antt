@@ -41,9 +41,13 @@ held s = size (s .waiting .setext) + mediaSizes (s .media)
 unfoldable pub kept : State → ℕ
 kept s = definitionSizes (s .kept .definitions) + footnoteSizes (s .kept .footnotes)
 
--- 8: a total is over 16,384; 9: the page has more than room bytes
+-- no total may be larger
+abbrev pub mostTotal : ℕ
+mostTotal = 16384
+
+-- 8: a total is over it; 9: the page has more than room bytes
 unfoldable pub over : (room : ℕ) → State → Option ℕ
 over room s =
-    if ltb 16384 (captured s) || ltb 16384 (held s) || ltb 16384 (kept s) then some 8
+    if ltb mostTotal (captured s) || ltb mostTotal (held s) || ltb mostTotal (kept s) then some 8
     else if ltb room (length (s .page)) then some 9
     else none

@@ -8,12 +8,17 @@ ghost use Rattle.notepage.specs.Shows.{Shows, ShowsEnd, ShowsNote, offOf
 use bundle_parts::Progress;
 use bundle_parts::Reader;
 use bundle_read::Answer;
+use bundle_read::LEAST_ROOM;
 use call_build_answer::Built;
+use call_build_answer::LEAST_WORK;
 use character_reference::Names;
 use libc::STDIN_FILENO;
 use libc::STDOUT_FILENO;
 use machine::Ending;
 use machine::Options;
+
+// The most bytes of a page that it writes.
+const PAGE_ROOM: usize = 65536;
 
 // The length of a page, or a refusal's number and place; or nothing, where the input could not be read.
 pub enum Shown {
@@ -37,10 +42,10 @@ pub struct Turn {
 }
 
 fn main() {
-    let mut text = [0u8; 64000];
-    let mut events = [0u8; 64000];
-    let mut out = [0u8; 65536];
-    let mut work = [0u8; 49152];
+    let mut text = [0u8; LEAST_ROOM];
+    let mut events = [0u8; LEAST_ROOM];
+    let mut out = [0u8; PAGE_ROOM];
+    let mut work = [0u8; LEAST_WORK];
     let shown = page_of_input(&mut text, &mut events, &mut out, &mut work);
     show(shown, &out);
 }

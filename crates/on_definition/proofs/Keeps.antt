@@ -6,6 +6,7 @@ use mathlib.Core.Option.{Option, none, some}
 use Prim.Native.Nat.{ℕ, min, _+_, _≤_, _<_}
 use native.Mathlib.Omega.{arith}
 use lib.ListN.{length, take}
+use Rattle.regions.specs.Sizes.{regionSize, heldAt, keptAt}
 use Rattle.machine.specs.State as State
 use Rattle.machine.specs.State.{State}
 use Rattle.machine.specs.Outcome.{go, _>>=_, need}
@@ -80,10 +81,10 @@ fewer n m p h = omega arith
 at-least : {n m : ℕ} → n ≡ m → m ≤ n
 at-least p = omega arith
 
-before-kept : 0 + 16384 ≤ 32768
+before-kept : 0 + regionSize ≤ keptAt
 before-kept = omega arith
 
-below-kept : 16384 + 16384 ≤ 32768
+below-kept : regionSize + regionSize ≤ keptAt
 below-kept = omega arith
 
 -- ---- the code
@@ -105,7 +106,7 @@ not-labelled e = record {
 }
 
 pub keeps-at : {p : Span} {b : Whole} {text work definitions work′ definitions′ : List ℕ} {k : Kept} {l : Links}
-    → KeepsDefinition (b .kept) text (p .from .0) (p .to .0) (16384 + min (ownPiece (b .links .media .destination) .place) 16384) (ownPiece (b .links .media .destination) .length) (16384 + min (textPiece (b .links .media .title) .place) 16384) (wordOf (b .links .media .title)) work definitions k work′ definitions′
+    → KeepsDefinition (b .kept) text (p .from .0) (p .to .0) (regionSize + min (ownPiece (b .links .media .destination) .place) regionSize) (ownPiece (b .links .media .destination) .length) (regionSize + min (textPiece (b .links .media .title) .place) regionSize) (wordOf (b .links .media .title)) work definitions k work′ definitions′
     → Closes (b .links) l → length work′ ≡ length work → KeepsAt p b text work definitions (withLinks l (withKept k b)) work′ definitions′
 unfolding within exec
 keeps-at {p} {b} {text} {work} {definitions} {work′} {definitions′} {k} {l} c closes n = record {
@@ -123,11 +124,11 @@ keeps-at {p} {b} {text} {work} {definitions} {work′} {definitions′} {k} {l} 
           let span = span-same (x .referenceId) e (h .span-is) in
           let is = label-is text (spanIs p) (h .label) (ap (λ (a : List ℕ). strOf a (spanIs p)) (sym (v .text-is)) ∙ ap (strOf (t .text)) (sym span) ∙ h .label-there) in
           let c′ = rw (← i, ← j) at c in
-          let kept : Keeps (b .kept) text (regionAt 32768 (w .work)) (w .tables) z = keeps-same refl refl (y .kept) in
+          let kept : Keeps (b .kept) text (regionAt keptAt (w .work)) (w .tables) z = keeps-same refl refl (y .kept) in
           let st = c′ .keeps new {s = z} (at-least (y .long)) kept is (destination-piece (w .work) (b .links .end) (b .links .media .destination) (m .destination) (x .destination)) (title-piece (w .work) (b .links .end) (b .links .media .title) (m .title) (x .title)) few in
-          let e1 : take 16384 work′ ≡ take 16384 (w .work) = part-same 0 16384 32768 (w .work) work′ before-kept (st .before) in
-          let e2 : regionAt 16384 work′ ≡ regionAt 16384 (w .work) = part-same 16384 16384 32768 (w .work) work′ below-kept (st .before) in
-          let links : Linked l (regionAt 16384 work′) z = rw e2 (closes .closes (regionAt 16384 (w .work)) s m (h .others) (h .media-is) a (y .links)) in
+          let e1 : take regionSize work′ ≡ take regionSize (w .work) = part-same 0 regionSize keptAt (w .work) work′ before-kept (st .before) in
+          let e2 : regionAt heldAt work′ ≡ regionAt heldAt (w .work) = part-same regionSize regionSize keptAt (w .work) work′ below-kept (st .before) in
+          let links : Linked l (regionAt heldAt work′) z = rw e2 (closes .closes (regionAt heldAt (w .work)) s m (h .others) (h .media-is) a (y .links)) in
           rw (← f) (record {
             long = n ∙ ap length (sym i) ∙ y .long;
             places = y .places;
@@ -158,7 +159,7 @@ dropped-first {b} {x = x} {text = text} k l = record {
 
 -- by what the code found of the pieces
 pub keeps-pieces : {p : Span} {b : Whole} {text work definitions work′ definitions′ : List ℕ} {k : Kept} {l : Links} {d title : Links.Piece} {word place titlePlace : ℕ} → d ≡ ownPiece (b .links .media .destination) → title ≡ textPiece (b .links .media .title)
-    → word ≡ wordOf (b .links .media .title) → place ≡ min (d .place) 16384 → titlePlace ≡ min (title .place) 16384
-    → KeepsDefinition (b .kept) text (p .from .0) (p .to .0) (16384 + place) (d .length) (16384 + titlePlace) word work definitions k work′ definitions′ → Closes (b .links) l → length work′ ≡ length work
+    → word ≡ wordOf (b .links .media .title) → place ≡ min (d .place) regionSize → titlePlace ≡ min (title .place) regionSize
+    → KeepsDefinition (b .kept) text (p .from .0) (p .to .0) (regionSize + place) (d .length) (regionSize + titlePlace) word work definitions k work′ definitions′ → Closes (b .links) l → length work′ ≡ length work
     → KeepsAt p b text work definitions (withLinks l (withKept k b)) work′ definitions′
 keeps-pieces e1 e2 e3 e4 e5 k c n = keeps-at (rw (e4, e5, e1, e2, e3) at k) c n

@@ -5,6 +5,7 @@ use mathlib.Core.Option.{Option, none, some}
 use Prim.Native.Nat.{ℕ, suc, min, _+_}
 use native.Mathlib.Omega.{arith}
 use lib.ListN.{length}
+use Rattle.regions.specs.Sizes.{regionSize, heldAt, keptAt}
 use Rattle.machine.specs.State as State
 use Rattle.machine.specs.State.{State, noDestination, own, defined}
 use Rattle.machine.specs.Media.{ownOf}
@@ -32,36 +33,36 @@ piece-defined e = rw e
 pub piece-unset : {t : Text} → t ≡ T.Unset → record { place = 0; length = 0 } ≡ textPiece t
 piece-unset e = rw e
 
-pub word-is : {t : Text} {p : Links.Piece} {n : ℕ} → t ≡ T.Is p → n ≡ min (p .length) 16384 → n + 1 ≡ wordOf t
+pub word-is : {t : Text} {p : Links.Piece} {n : ℕ} → t ≡ T.Is p → n ≡ min (p .length) regionSize → n + 1 ≡ wordOf t
 word-is {n = n} e i = let z : n + 1 ≡ suc n = omega arith in rw e (z ∙ ap suc i)
 
 pub sought-is : (x y : Label) {p : Span} → x ≡ L.Is p → L.Is p ≡ orElse x y
 sought-is x y e = rw e
 
-no-piece : (work : List ℕ) → Piece work 32768 (16384 + min 0 16384) 0 []
+no-piece : (work : List ℕ) → Piece work keptAt (regionSize + min 0 regionSize) 0 []
 no-piece work = record { long = refl; below = omega arith; bytes = refl }
 
-pub destination-piece : (work : List ℕ) (end : ℕ) (d : Destination) (x : State.Destination) → DestinationIs (regionAt 16384 work) end d x → Piece work 32768 (16384 + min (ownPiece d .place) 16384) (ownPiece d .length) (orEmpty (ownOf x))
+pub destination-piece : (work : List ℕ) (end : ℕ) (d : Destination) (x : State.Destination) → DestinationIs (regionAt heldAt work) end d x → Piece work keptAt (regionSize + min (ownPiece d .place) regionSize) (ownPiece d .length) (orEmpty (ownOf x))
 destination-piece work end D.Nowhere noDestination k = no-piece work
 destination-piece work end D.Nowhere (own c) k = absurd k
 destination-piece work end D.Nowhere (defined n) k = absurd k
 destination-piece work end (D.Own p) noDestination k = absurd k
 destination-piece work end (D.Own p) (own c) k =
     let i = k .inside in
-    let e : min (p .place) 16384 ≡ p .place = omega arith in
-    record { long = k .long; below = omega arith; bytes = rw e (sym (part-of-region 16384 (p .place) (p .length) work i) ∙ k .bytes) }
+    let e : min (p .place) regionSize ≡ p .place = omega arith in
+    record { long = k .long; below = omega arith; bytes = rw e (sym (part-of-region regionSize (p .place) (p .length) work i) ∙ k .bytes) }
 destination-piece work end (D.Own p) (defined n) k = absurd k
 destination-piece work end (D.Defined i) noDestination k = absurd k
 destination-piece work end (D.Defined i) (own c) k = absurd k
 destination-piece work end (D.Defined i) (defined n) k = no-piece work
 
-pub title-piece : (work : List ℕ) (end : ℕ) (t : Text) (o : Option (List ℕ)) → TextIs (regionAt 16384 work) end t o → Optional work 32768 (16384 + min (textPiece t .place) 16384) (wordOf t) o
+pub title-piece : (work : List ℕ) (end : ℕ) (t : Text) (o : Option (List ℕ)) → TextIs (regionAt heldAt work) end t o → Optional work keptAt (regionSize + min (textPiece t .place) regionSize) (wordOf t) o
 title-piece work end T.Unset none k = tt
 title-piece work end T.Unset (some c) k = absurd k
 title-piece work end (T.Is p) none k = absurd k
 title-piece work end (T.Is p) (some c) k =
     let i = k .inside in
     let l = k .long in
-    let e : min (p .place) 16384 ≡ p .place = omega arith in
-    let n : min (p .length) 16384 ≡ p .length = omega arith in
-    record { long = n ∙ l; below = omega arith; bytes = rw (e, n) (sym (part-of-region 16384 (p .place) (p .length) work i) ∙ k .bytes) }
+    let e : min (p .place) regionSize ≡ p .place = omega arith in
+    let n : min (p .length) regionSize ≡ p .length = omega arith in
+    record { long = n ∙ l; below = omega arith; bytes = rw (e, n) (sym (part-of-region regionSize (p .place) (p .length) work i) ∙ k .bytes) }

@@ -4,6 +4,7 @@ use mathlib.Core.List.{List, _∷_}
 use mathlib.Core.Option.{Option, none, some}
 use Prim.Native.Nat.{ℕ, _≤_}
 use native.Mathlib.Omega.{arith}
+use Rattle.regions.specs.Sizes.{heldAt}
 use Rattle.normalize_identifier.specs.declared.Found.{Found}
 use Rattle.normalize_identifier.specs.declared.Found.the-variants.{At, Nothing}
 use Rattle.normalize_identifier.specs.Search.{firstSame}
@@ -14,7 +15,7 @@ use Rattle.machine.specs.Set.{setMedia, setDestination}
 use Rattle.machine.specs.Turn.{Turn, strOf}
 use Rattle.machine.specs.Media as M
 use Rattle.machine.specs.Media.{definedAt, definitionLabels}
-use Rattle.machine.specs.Totals.{kept}
+use Rattle.machine.specs.Totals.{kept, mostTotal}
 use Rattle.machine.proofs.Outcomes.{never, first-goes}
 use Rattle.regions.specs.Regions.{regionAt}
 use Rattle.state_media.specs.declared.Links.{Links}
@@ -34,10 +35,10 @@ use Rattle.on_definition.specs.Private.{SeeksAt, SeeksLabel, soughtOf, o
 
 module _ {text : List ℕ} {b : Whole} {w : World} {s : State} where
   -- what is known of the newest medium, where there is room
-  pub newest-is : {m : State.Media} {ms : List State.Media} → Held b → Built text b w s → s .media ≡ m ∷ ms → MediaIs (regionAt 16384 (w .work)) (b .links .end) (b .links .media) m
+  pub newest-is : {m : State.Media} {ms : List State.Media} → Held b → Built text b w s → s .media ≡ m ∷ ms → MediaIs (regionAt heldAt (w .work)) (b .links .end) (b .links .media) m
   newest-is a y q = let x = y .links .newest (room-in a y) in rw q at x
 
-  pub kept-room : Known b → Built text b w s → kept s ≤ 16384
+  pub kept-room : Known b → Built text b w s → kept s ≤ mostTotal
   kept-room a y = let e = y .kept .end in let h = a .kept in omega arith
 
   -- led where it leads already
@@ -51,7 +52,7 @@ module _ {text : List ℕ} {b : Whole} {w : World} {s : State} where
     long = y .long;
     places = y .places;
     context = rel-alike (record { page = refl; captures = refl; flags = refl; rank = refl; seen = refl; fences = refl; marker = refl; first = refl; tight = refl; table = refl; fixed = refl }) (y .context);
-    links = k .leads (regionAt 16384 (w .work)) s m ms q i (y .links);
+    links = k .leads (regionAt heldAt (w .work)) s m ms q i (y .links);
     kept = keeps-same refl refl (y .kept);
   }
 

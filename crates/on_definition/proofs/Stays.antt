@@ -3,6 +3,7 @@ use mathlib.Core.Path.{_≡_, refl}
 use mathlib.Core.List.{List}
 use mathlib.Core.Option.{Option}
 use Prim.Native.Nat.{ℕ}
+use Rattle.regions.specs.Sizes.{heldAt}
 use Rattle.machine.specs.State as State
 use Rattle.machine.specs.State.{State, noDestination, own, defined}
 use Rattle.machine.specs.Outcome.{go}
@@ -44,7 +45,7 @@ module _ {b : Whole} {text definitions : List ℕ} where
       handles = λ t s u v a y p.
           let h = sought-there t s u p in
           let n = newest-is (a .held) y (h .media-is) .destination in
-          let z = nowhere-is (regionAt 16384 (w .work)) (b .links .end) (h .newest .destination) (rw e at n) in
+          let z = nowhere-is (regionAt heldAt (w .work)) (b .links .end) (h .newest .destination) (rw e at n) in
           rw (← h .then-is) (k .seeks t w s (h .newest) (h .others) (h .to) (v .text-is) i a y (h .media-is) z (h .sought));
     };
   }
@@ -55,7 +56,7 @@ module _ {b : Whole} {text definitions : List ℕ} where
       handles = λ t s u v a y p.
           let h = sought-there t s u p in
           let n = newest-is (a .held) y (h .media-is) .destination in
-          let z = own-stays (regionAt 16384 (w .work)) (b .links .end) q (h .newest .destination) (s .kept .definitions) (h .sought .label) (h .to) (rw e at n) (h .sought .leads) in
+          let z = own-stays (regionAt heldAt (w .work)) (b .links .end) q (h .newest .destination) (s .kept .definitions) (h .sought .label) (h .to) (rw e at n) (h .sought .leads) in
           rw (← h .then-is) (unled (h .newest) (h .others) (h .to) (h .media-is) z y);
     };
   }
@@ -66,7 +67,7 @@ module _ {b : Whole} {text definitions : List ℕ} where
       handles = λ t s u v a y p.
           let h = sought-there t s u p in
           let n = newest-is (a .held) y (h .media-is) .destination in
-          let z = defined-stays (regionAt 16384 (w .work)) (b .links .end) j (h .newest .destination) (s .kept .definitions) (h .sought .label) (h .to) (rw e at n) (h .sought .leads) in
+          let z = defined-stays (regionAt heldAt (w .work)) (b .links .end) j (h .newest .destination) (s .kept .definitions) (h .sought .label) (h .to) (rw e at n) (h .sought .leads) in
           rw (← h .then-is) (unled (h .newest) (h .others) (h .to) (h .media-is) z y);
     };
   }

@@ -2,6 +2,7 @@
 use mathlib.Core.Path.{_≡_}
 use mathlib.Core.List.{List}
 use Prim.Native.Nat.{ℕ, _≤_}
+use Rattle.regions.specs.Sizes.{regionSize}
 use Rattle.machine.specs.Turn.{Turn}
 use Rattle.machine.specs.Command.{Command}
 use Rattle.state_kept.specs.Kept.{tables}
@@ -11,7 +12,7 @@ use Rattle.state_whole.specs.Whole.{World, Held, Handles, withWork, withTables}
 -- what is held and what is kept have room
 pub record Known (b : Whole) : Type 0 where
   pub held : Held b
-  pub kept : b .kept .end ≤ 16384
+  pub kept : b .kept .end ≤ regionSize
 
 -- a turn of this text
 pub record Reads (text : List ℕ) (t : Turn) : Type 0 where

@@ -3,6 +3,7 @@ use mathlib.Core.Path.{_≡_}
 use mathlib.Core.List.{List, _∷_}
 use mathlib.Core.Option.{Option}
 use Prim.Native.Nat.{ℕ, suc, min}
+use Rattle.regions.specs.Sizes.{regionSize}
 use Rattle.machine.specs.State as State
 use Rattle.machine.specs.State.{State, noDestination}
 use Rattle.machine.specs.Outcome.{go}
@@ -67,7 +68,7 @@ textPiece (T.Is p) = p
 
 abbrev pub wordOf : Text → ℕ
 wordOf T.Unset = 0
-wordOf (T.Is p) = suc (min (p .length) 16384)
+wordOf (T.Is p) = suc (min (p .length) regionSize)
 
 -- the newest medium is kept, and closed
 pub record KeepsNewest (b : Whole) (text work definitions : List ℕ) (r : Whole) (work′ definitions′ : List ℕ) : Type 0 where

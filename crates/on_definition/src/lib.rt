@@ -1,6 +1,7 @@
 // Handlers of definitions, by their Rust names; and the search for one.
 ghost use mathlib.Core.Path.{_≡_};
 ghost use Prim.Native.Nat.{min, _+_, _-_};
+ghost use Rattle.regions.specs.Sizes.{regionSize};
 ghost use Rattle.machine.specs.Words.{seekDefinition};
 ghost use Rattle.machine.specs.OnDefinition.{onExitDefinition, onEnterDefinition, onExitDefinitionLabelString, onExitDefinitionDestinationString, onExitDefinitionTitleString};
 ghost use Rattle.state_whole.specs.Whole.{Roomy, Always, FromStarts, OnStarts, OnWork};
@@ -132,10 +133,10 @@ fn text_piece(t: Text) -> Piece
 
 // A place or length within a region.
 pub fn at_most(n: usize) -> usize
-    ensures { λ r. ⌜ r ≡ min n 16384 ⌝ }
+    ensures { λ r. ⌜ r ≡ min n regionSize ⌝ }
 {
-    if 16384 < n {
-        return 16384;
+    if regions::SIZE < n {
+        return regions::SIZE;
     }
     n
 }
@@ -171,9 +172,9 @@ fn keep_at(b: Whole, p: Span, text: &[u8], work: &mut [u8], definitions: &mut [u
         text,
         p.from.0,
         p.to.0,
-        16384 + place,
+        regions::HELD_AT + place,
         own.length,
-        16384 + title_place,
+        regions::HELD_AT + title_place,
         word,
         work,
         definitions,

@@ -5,6 +5,7 @@ use mathlib.Core.List.{List, [], _∷_}
 use Prim.Native.Nat.{ℕ, _+_, _-_, _≤_, _<_}
 use native.Mathlib.Omega.{arith}
 use lib.ListN.{length, take, drop, length-take, length-drop}
+use Rattle.regions.specs.Sizes.{regionSize, heldAt, keptAt, workSize}
 use Rattle.machine.specs.State.{State, Span}
 use Rattle.machine.specs.Outcome.{Outcome, go, _>>=_}
 use Rattle.machine.specs.Set.{setCaptures, setLabels, addFootnote}
@@ -79,16 +80,16 @@ at-least p = omega arith
 at-most : {n m k : ℕ} → n ≤ m → k ≡ m → n ≤ k
 at-most p q = omega arith
 
-before-kept : 0 + 16384 ≤ 32768
+before-kept : 0 + regionSize ≤ keptAt
 before-kept = omega arith
 
-below-kept : 16384 + 16384 ≤ 32768
+below-kept : regionSize + regionSize ≤ keptAt
 below-kept = omega arith
 
 -- ---- the code
 
 -- the capture is a piece of the work bytes before what is kept
-piece-is : (b : Whole) (w : World) (c : List ℕ) → length (w .work) ≡ 49152 → b .context .buffers .end ≤ 16384 → Captured b w c → Piece (w .work) 32768 (b .context .buffers .start) (b .context .buffers .end - b .context .buffers .start) c
+piece-is : (b : Whole) (w : World) (c : List ℕ) → length (w .work) ≡ workSize → b .context .buffers .end ≤ regionSize → Captured b w c → Piece (w .work) keptAt (b .context .buffers .start) (b .context .buffers .end - b .context .buffers .start) c
 piece-is b w c l m k =
     let from = b .context .buffers .start in
     let n = b .context .buffers .end - from in
@@ -115,12 +116,12 @@ keeps-body {b = b} {text = text} {work = work} {starts = starts} {work′ = work
         let is = label-is text (h .span) (h .label) (ap (λ (x : List ℕ). strOf x (h .span)) (sym (v .text-is)) ∙ h .label-there) in
         let long = y .long in
         let k′ = rw (← i, ← f, ← l) at k in
-        let kept : Keeps (b .kept) text (regionAt 32768 (w .work)) (w .tables) z = keeps-same refl refl (y .kept) in
+        let kept : Keeps (b .kept) text (regionAt keptAt (w .work)) (w .tables) z = keeps-same refl refl (y .kept) in
         let st = k′ .keeps {s = z} (at-least long) kept (h .labels-are) is (piece-is b w (h .body) long m c) few in
         let r = uncaptured s (h .body) (h .others) (rw (← j) at drops) (h .captures-are) (at-most m (front-long (w .work) long)) (y .context) in
-        let e1 : take 16384 work′ ≡ take 16384 (w .work) = part-same 0 16384 32768 (w .work) work′ before-kept (st .before) in
-        let e2 : regionAt 16384 work′ ≡ regionAt 16384 (w .work) = part-same 16384 16384 32768 (w .work) work′ below-kept (st .before) in
-        let links : Linked (b .links) (regionAt 16384 work′) s = rw e2 (y .links) in
+        let e1 : take regionSize work′ ≡ take regionSize (w .work) = part-same 0 regionSize keptAt (w .work) work′ before-kept (st .before) in
+        let e2 : regionAt heldAt work′ ≡ regionAt heldAt (w .work) = part-same regionSize regionSize keptAt (w .work) work′ below-kept (st .before) in
+        let links : Linked (b .links) (regionAt heldAt work′) s = rw e2 (y .links) in
         rw (← q) (record {
           long = n ∙ ap length (sym i) ∙ long;
           places = y .places;

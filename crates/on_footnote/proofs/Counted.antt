@@ -6,6 +6,7 @@ use Prim.Native.Nat.{ℕ, suc, _≤_, _<_}
 use native.Mathlib.Omega.{arith}
 use lib.ListN.{length}
 use Rattle.lent.specs.Bytes.{if_then_else_}
+use Rattle.regions.specs.Sizes.{regionSize, heldAt, keptAt, workSize}
 use Rattle.machine.specs.State as State
 use Rattle.machine.specs.State.{State}
 use Rattle.machine.specs.Set.{alt, setCalls}
@@ -40,7 +41,7 @@ use Rattle.on_footnote.proofs.Calls.{counted, textOf, kept-is, counted-
 alike-counted : (label : List ℕ) (ms : List State.Media) (s : State) → Alike s (counted label ms s)
 alike-counted label ms s = record { page = refl; captures = refl; flags = refl; rank = refl; seen = refl; fences = refl; marker = refl; first = refl; tight = refl; table = refl; fixed = refl }
 
-long-enough : {n : ℕ} → n ≡ 49152 → 16384 ≤ n
+long-enough : {n : ℕ} → n ≡ workSize → regionSize ≤ n
 long-enough e = omega arith
 
 -- what is lent as it was
@@ -79,7 +80,7 @@ by-label k e = k .calls-label e
 
 module _ {p : Span} {b : Whole} {text calls calls′ : List ℕ} {index : ℕ} {k : Kept} {l : Links}
     (finds : FindsCall (b .kept) text (p .from .0) (p .to .0) calls index) (counts : CountsCall (b .kept) index text (p .from .0) (p .to .0) calls k calls′) (closes : Closes (b .links) l) where
-  counting : (w : World) (s u : State) → w .tables .calls ≡ calls → b .links .end ≤ 16384 → fitting u ≡ true → Built text b w s → (c : KnownCall p text s u) → Counted text index (withKept k (withLinks l b)) (withCalls calls′ w) (c .label) (c .others) s
+  counting : (w : World) (s u : State) → w .tables .calls ≡ calls → b .links .end ≤ regionSize → fitting u ≡ true → Built text b w s → (c : KnownCall p text s u) → Counted text index (withKept k (withLinks l b)) (withCalls calls′ w) (c .label) (c .others) s
   counting w s u h a f y c =
       let cs = s .kept .calls in
       let label = c .label in
@@ -90,7 +91,7 @@ module _ {p : Span} {b : Whole} {text calls calls′ : List ℕ} {index : ℕ} {
       let z : u .kept .calls ≡ countAt index label cs = ap (λ (x : State.Kept). x .calls) (kept-is (s .flags .alt) (textOf label cs) (counted label (c .others) s) u (c .then-is)) ∙ ap (λ (i : ℕ). countAt i label cs) (sym e) in
       let n : index < 64 = index-fits index label cs g (rw z at (fits u f .calls)) in
       let m : timesAt index cs < 0x1_0000_0000 = times-fit index label cs (rw z at (fits u f .times)) in
-      let v : Keeps k text (regionAt 32768 (w .work)) (tables (w .tables .definitions) (w .tables .footnotes) calls′ (w .tables .labels)) (setCalls (countAt (callIndex label cs) label cs) s) = rw (← e) (counts′ .counts (y .kept) (c .label-there) g n m) in
+      let v : Keeps k text (regionAt keptAt (w .work)) (tables (w .tables .definitions) (w .tables .footnotes) calls′ (w .tables .labels)) (setCalls (countAt (callIndex label cs) label cs) s) = rw (← e) (counts′ .counts (y .kept) (c .label-there) g n m) in
       record {
         index-is = e;
         few = n;
@@ -99,7 +100,7 @@ module _ {p : Span} {b : Whole} {text calls calls′ : List ℕ} {index : ℕ} {
           long = y .long;
           places = y .places;
           context = rel-alike (alike-counted label (c .others) s) (y .context);
-          links = linked-same refl refl (closes .closes (regionAt 16384 (w .work)) s (c .newest) (c .others) (c .media-are) a (y .links));
+          links = linked-same refl refl (closes .closes (regionAt heldAt (w .work)) s (c .newest) (c .others) (c .media-are) a (y .links));
           kept = keeps-same refl refl v;
         };
       }

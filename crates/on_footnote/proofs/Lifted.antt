@@ -4,6 +4,7 @@ use mathlib.Core.Bool.{true}
 use mathlib.Core.List.{List}
 use Prim.Native.Nat.{ℕ}
 use lib.ListN.{take, take-append-drop}
+use Rattle.regions.specs.Sizes.{regionSize}
 use Rattle.machine.specs.Turn.{Turn}
 use Rattle.machine.specs.Command.{Command}
 use Rattle.state_context.specs.declared.Context.{Context}
@@ -15,8 +16,8 @@ use Rattle.state_whole.specs.Whole.{World, Always, Handles, Unlent, withContext
 use Rattle.state_whole.proofs.Lifts.{lifts}
 
 -- the captures as they were
-unchanged : {text : List ℕ} {N : Whole → Type 0} {View : Turn → Type 0} {d : Command} {b r : Whole} {w : World} → Handles text N View d b w r (withStarts (w .starts) (withBytes (take 16384 (w .work)) (w .out) w)) → Handles text N View d b w r w
-unchanged {w = w} k = let e = take-append-drop 16384 (w .work) in rw e at k
+unchanged : {text : List ℕ} {N : Whole → Type 0} {View : Turn → Type 0} {d : Command} {b r : Whole} {w : World} → Handles text N View d b w r (withStarts (w .starts) (withBytes (take regionSize (w .work)) (w .out) w)) → Handles text N View d b w r w
+unchanged {w = w} k = let e = take-append-drop regionSize (w .work) in rw e at k
 
 pub sets-whole : {View : Turn → Type 0} {d : Command} {b : Whole} {x : Context} → isQuiet d ≡ true → Sets d (b .context) x → Unlent Always View d b (withContext x b)
 sets-whole q k = record { unlent = λ text w. unchanged (lifts q (sets k) refl refl refl) }

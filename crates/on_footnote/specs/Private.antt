@@ -3,6 +3,7 @@ use mathlib.Core.Path.{_≡_}
 use mathlib.Core.List.{List}
 use Prim.Native.Nat.{ℕ, suc, _≤_, _<_}
 use lib.ListN.{length, take, drop}
+use Rattle.regions.specs.Sizes.{regionSize}
 use Rattle.machine.specs.Buffers.{push}
 use Rattle.machine.specs.Footnote.{addressOf, callText}
 use Rattle.machine.specs.Words.{call}
@@ -21,8 +22,8 @@ pub record CallsLabel (p : Span) (b : Whole) (text work out calls : List ℕ) (r
 
 -- a call to the newest buffer; what stands behind the captures stays
 pub record Written (t : List ℕ) (b : Buffers) (work out : List ℕ) (r : Buffers) (work′ out′ : List ℕ) : Type 0 where
-  pub keeps : Stand.Keeps (push t) b (take 16384 work) out r (take 16384 work′) out′
-  pub behind : drop 16384 work′ ≡ drop 16384 work
+  pub keeps : Stand.Keeps (push t) b (take regionSize work) out r (take regionSize work′) out′
+  pub behind : drop regionSize work′ ≡ drop regionSize work
 
 pub record WritesCall (b : Buffers) (text : List ℕ) (from to index times : ℕ) (work out : List ℕ) (r : Buffers) (work′ out′ : List ℕ) : Type 0 where
-  pub writes : (label : List ℕ) → LabelIs text from to label → index < 64 → 16384 ≤ length work → Written (callText (addressOf label) (suc index) times) b work out r work′ out′
+  pub writes : (label : List ℕ) → LabelIs text from to label → index < 64 → regionSize ≤ length work → Written (callText (addressOf label) (suc index) times) b work out r work′ out′

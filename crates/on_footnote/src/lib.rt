@@ -92,14 +92,14 @@ fn write_call(
     if text.len() < to {
         return b;
     }
-    if work.len() < 16384 {
+    if work.len() < regions::SIZE {
         return b;
     }
     if 64 <= index {
         return b;
     }
     let label = &text[from..to];
-    let captures = &mut work[0..16384];
+    let captures = &mut work[0..regions::SIZE];
     write_footnote::push_call(b, captures, out, label, index + 1, times)
 }
 

@@ -7,6 +7,7 @@ use Prim.Native.Nat.{ℕ}
 use native.Mathlib.Omega.{arith}
 use lib.ListN.{length, getD, getElem?}
 use Rattle.lent.specs.Bytes.{if_then_else_}
+use Rattle.regions.specs.Sizes.{heldAt, keptAt}
 use Rattle.encode.specs.Encode.{encodeOf}
 use Rattle.normalize_uri.specs.Url.{normalizeOf}
 use Rattle.sanitize_uri.specs.Url.{sanitizeOf}
@@ -27,6 +28,7 @@ use Rattle.state_media.specs.declared.Destination.the-variants as D
 use Rattle.state_media.specs.Links.{PieceIs, DestinationIs, IsImage}
 use Rattle.state_kept.specs.Kept as Kept
 use Rattle.state_kept.specs.Kept.{column, orEmpty}
+use Rattle.state_kept.specs.Sizes.{definitionRows}
 use Rattle.state_whole.specs.declared.Whole.{Whole}
 use Rattle.state_whole.specs.Whole.{World, Built}
 use Rattle.on_definition.specs.Definitions.{Known}
@@ -97,7 +99,7 @@ defined-bytes region end i o ds m c k q = on (m .destination) k q
 
 -- under the code's options, and by what it knows of the newest
 url-same : {o : Options} {b : Whole} {image : Bool} → IsImage (b .links) image → (text : List ℕ) (w : World) (t : Turn) (s : State) (m : State.Media) (ms : List State.Media) (c : List ℕ) → Chooses o t → Built text b w s → s .media ≡ m ∷ ms → urlOf o image c ≡ urlOf (t .options) (m .image) c
-url-same {o} is text w t s m ms c v y q = ap (λ (x : Bool). urlOf o x c) (is .is (regionAt 16384 (w .work)) s m ms q (y .links)) ∙ ap (λ (x : Options). urlOf x (m .image) c) (sym (v .options-is))
+url-same {o} is text w t s m ms c v y q = ap (λ (x : Bool). urlOf o x c) (is .is (regionAt heldAt (w .work)) s m ms q (y .links)) ∙ ap (λ (x : Options). urlOf x (m .image) c) (sym (v .options-is))
 
 module _ {o : Options} {b : Whole} {work out definitions : List ℕ} where
   pub leads-nowhere : b .links .media .destination ≡ D.Nowhere → OnShown Known (Chooses o) (show destination) b work out definitions b work out
@@ -106,36 +108,36 @@ module _ {o : Options} {b : Whole} {work out definitions : List ℕ} where
       handles = λ t s u v a y p.
           let h = shown-there destination t s u p in
           let x = newest-is (a .held) y (h .media-is) .destination in
-          let z = nowhere-bytes (regionAt 16384 (w .work)) (b .links .end) (t .options) (s .kept .definitions) (h .newest) (h .bytes) (rw e at x) (h .bytes-are) in
+          let z = nowhere-bytes (regionAt heldAt (w .work)) (b .links .end) (t .options) (s .kept .definitions) (h .newest) (h .bytes) (rw e at x) (h .bytes-are) in
           let q : push [] s ≡ u = ap (λ (c : List ℕ). push c s) z ∙ h .then-is in
           rw (← q) (unwritten i j y);
     };
   }
 
   module _ {image : Bool} {r : Whole} {work′ out′ : List ℕ} (is : IsImage (b .links) image) where
-    pub leads-own : {p : Piece} → b .links .media .destination ≡ D.Own p → WritesPiece (urlOf o image) 16384 (p .place) (p .length) b work out r work′ out′ → OnShown Known (Chooses o) (show destination) b work out definitions r work′ out′
+    pub leads-own : {p : Piece} → b .links .media .destination ≡ D.Own p → WritesPiece (urlOf o image) heldAt (p .place) (p .length) b work out r work′ out′ → OnShown Known (Chooses o) (show destination) b work out definitions r work′ out′
     leads-own {p} e k = record {
       on-shown = λ text w i j f. record {
         handles = λ t s u v a y q.
             let h = shown-there destination t s u q in
             let x = newest-is (a .held) y (h .media-is) .destination in
-            let z = own-bytes (regionAt 16384 (w .work)) (b .links .end) p (t .options) (s .kept .definitions) (h .newest) (h .bytes) (rw e at x) (h .bytes-are) in
+            let z = own-bytes (regionAt heldAt (w .work)) (b .links .end) p (t .options) (s .kept .definitions) (h .newest) (h .bytes) (rw e at x) (h .bytes-are) in
             let g : push (urlOf o image (z .0)) s ≡ u = ap (λ (c : List ℕ). push c s) (url-same is text w t s (h .newest) (h .others) (z .0) v y (h .media-is) ∙ z .2) ∙ h .then-is in
             rw (← g) (k .writes text (z .0) w s i j (omega arith) (omega arith) (z .1 .inside) (z .1 .bytes) y);
       };
     }
 
-    pub leads-defined : {n place m : ℕ} → b .links .media .destination ≡ D.Defined n → place ≡ getD (column 128 2 definitions) n 0 → m ≡ getD (column 128 3 definitions) n 0 → WritesPiece (urlOf o image) 32768 place m b work out r work′ out′
+    pub leads-defined : {n place m : ℕ} → b .links .media .destination ≡ D.Defined n → place ≡ getD (column definitionRows 2 definitions) n 0 → m ≡ getD (column definitionRows 3 definitions) n 0 → WritesPiece (urlOf o image) keptAt place m b work out r work′ out′
         → OnShown Known (Chooses o) (show destination) b work out definitions r work′ out′
     leads-defined {n} {place} {m} e pl ln k = record {
       on-shown = λ text w i j f. record {
         handles = λ t s u v a y q.
             let h = shown-there destination t s u q in
             let x = newest-is (a .held) y (h .media-is) .destination in
-            let z = defined-bytes (regionAt 16384 (w .work)) (b .links .end) n (t .options) (s .kept .definitions) (h .newest) (h .bytes) (rw e at x) (h .bytes-are) in
+            let z = defined-bytes (regionAt heldAt (w .work)) (b .links .end) n (t .options) (s .kept .definitions) (h .newest) (h .bytes) (rw e at x) (h .bytes-are) in
             let d = y .kept .definitions (kept-room a y) .each n (z .0) (z .1) .destination in
             let c = orEmpty (z .0 .destination) in
-            let d′ : Kept.Piece (regionAt 32768 (w .work)) (b .kept .end) place m c = rw (pl, ln, ← f) d in
+            let d′ : Kept.Piece (regionAt keptAt (w .work)) (b .kept .end) place m c = rw (pl, ln, ← f) d in
             let g : push (urlOf o image c) s ≡ u = ap (λ (c : List ℕ). push c s) (url-same is text w t s (h .newest) (h .others) c v y (h .media-is) ∙ z .2) ∙ h .then-is in
             let l = d′ .below in
             let room = a .kept in

@@ -5,6 +5,7 @@ use mathlib.Core.Option.{Option, none, some}
 use Prim.Native.Nat.{ℕ}
 use native.Mathlib.Omega.{arith}
 use lib.ListN.{length}
+use Rattle.regions.specs.Sizes.{heldAt}
 use Rattle.machine.specs.State as State
 use Rattle.machine.specs.State.{State}
 use Rattle.machine.specs.Outcome.{go, need}
@@ -66,17 +67,17 @@ module _ {View : Turn → Type 0} {b : Whole} {work out : List ℕ} where
       handles = λ t s u v a y p.
           let h = shown-there label t s u p in
           let x = newest-is a y (h .media-is) .label in
-          unset-not (regionAt 16384 (w .work)) (b .links .end) (h .newest .label) (h .bytes) (rw e at x) (label-bytes t (s .kept .definitions) (h .newest) (h .bytes) (h .bytes-are));
+          unset-not (regionAt heldAt (w .work)) (b .links .end) (h .newest .label) (h .bytes) (rw e at x) (label-bytes t (s .kept .definitions) (h .newest) (h .bytes) (h .bytes-are));
     };
   }
 
-  pub label-shown : {p : Piece} {r : Whole} {work′ out′ : List ℕ} → b .links .media .label ≡ T.Is p → WritesPiece asIs 16384 (p .place) (p .length) b work out r work′ out′ → OnPage Held View (show label) b work out r work′ out′
+  pub label-shown : {p : Piece} {r : Whole} {work′ out′ : List ℕ} → b .links .media .label ≡ T.Is p → WritesPiece asIs heldAt (p .place) (p .length) b work out r work′ out′ → OnPage Held View (show label) b work out r work′ out′
   label-shown {p} e k = record {
     on-page = λ text w i j. record {
       handles = λ t s u v a y q.
           let h = shown-there label t s u q in
           let x = newest-is a y (h .media-is) .label in
-          let z = text-piece (regionAt 16384 (w .work)) (b .links .end) p (h .newest .label) (h .bytes) (rw e at x) (label-bytes t (s .kept .definitions) (h .newest) (h .bytes) (h .bytes-are)) in
+          let z = text-piece (regionAt heldAt (w .work)) (b .links .end) p (h .newest .label) (h .bytes) (rw e at x) (label-bytes t (s .kept .definitions) (h .newest) (h .bytes) (h .bytes-are)) in
           rw (← h .then-is) (k .writes text (h .bytes) w s i j (omega arith) (omega arith) (z .inside) (z .bytes) y);
     };
   }

@@ -4,6 +4,7 @@ use mathlib.Core.Bool.{Bool, true, false}
 use mathlib.Core.List.{List, [], _∷_}
 use Prim.Native.Nat.{ℕ}
 use lib.ListN.{take}
+use Rattle.regions.specs.Sizes.{regionSize, heldAt}
 use Rattle.machine.specs.State as State
 use Rattle.machine.specs.State.{State}
 use Rattle.machine.specs.Outcome.{Outcome, go, _>>=_}
@@ -30,7 +31,7 @@ pub record Answers (q : Test) (b : Whole) (x : Bool) : Type 0 where
   pub answers : (text : List ℕ) (w : World) (t : Turn) (s : State) (y : Bool) → Built text b w s → test q t s ≡ go y → y ≡ x
 
 pub alt-known : {b : Whole} {x : Bool} → Tells Any (is alt) (b .context) x → Answers (is alt) b x
-alt-known a = record { answers = λ text w t s y k p. a .tells t (take 16384 (w .work)) (w .out) (w .starts) s y (record {}) (k .context) p }
+alt-known a = record { answers = λ text w t s y k p. a .tells t (take regionSize (w .work)) (w .out) (w .starts) s y (record {}) (k .context) p }
 
 image-there : (ms : List State.Media) (y : Bool) → (splitMedia ms >>= λ (m, rs). go (m .image)) ≡ go y → (m : State.Media) × (rs : List State.Media) × (ms ≡ m ∷ rs) × (m .image ≡ y)
 image-there [] y p = never p
@@ -39,7 +40,7 @@ image-there (m ∷ rs) y p = let e : m .image ≡ y = cc in (m, rs, refl, e)
 pub image-known : {b : Whole} {x : Bool} → IsImage (b .links) x → Answers isImage b x
 unfolding test newestMedia
 image-known k = record {
-  answers = λ text w t s y z p. (let f = image-there (s .media) y p in sym (f .3) ∙ sym (k .is (regionAt 16384 (w .work)) s (f .0) (f .1) (f .2) (z .links)));
+  answers = λ text w t s y z p. (let f = image-there (s .media) y p in sym (f .3) ∙ sym (k .is (regionAt heldAt (w .work)) s (f .0) (f .1) (f .2) (z .links)));
 }
 
 -- ---- either way
@@ -92,7 +93,7 @@ leaves-image {View} {b} {x} {c} k l = record {
     handles = λ t s u v a y p.
         let g = done true (leaveAlt s) u p in
         let f = newest-there s u (λ (m, ms). go (setFlag alt (anyImage ms) s)) (g .went) in
-        let e = k .is (regionAt 16384 (w .work)) s (f .0) (f .1) (f .2) (y .links) in
+        let e = k .is (regionAt heldAt (w .work)) s (f .0) (f .1) (f .2) (y .links) in
         let q : leaveAlt s ≡ go (setFlag alt x s) = g .went ∙ sym (f .3) ∙ ap (λ (z : Bool). go (setFlag alt z s)) (sym e) in
         lifts-sets {View = View} refl l .unlent text w .handles t s u v tt y (ap (λ (o : Outcome State). one true o) (sym q) ∙ p);
   };

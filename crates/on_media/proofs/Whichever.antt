@@ -5,6 +5,7 @@ use mathlib.Core.Option.{Option, none, some}
 use Prim.Native.Nat.{ℕ}
 use native.Mathlib.Omega.{arith}
 use lib.ListN.{getElem?}
+use Rattle.regions.specs.Sizes.{heldAt}
 use Rattle.machine.specs.State as State
 use Rattle.machine.specs.State.{State, noDestination, own, defined}
 use Rattle.machine.specs.Outcome.{go, _>>=_, need}
@@ -70,10 +71,10 @@ module _ {View : Turn → Type 0} {b r : Whole} {work out definitions work′ ou
   }
 
   pub title-nowhere : b .links .media .destination ≡ D.Nowhere → ShowsOwnTitle b work out r work′ out′ → OnShown Known View (show title) b work out definitions r work′ out′
-  title-nowhere e k = ours (λ text w t s m ms x a y q p. (let d = newest-is (a .held) y q .destination in nowhere-title (regionAt 16384 (w .work)) (b .links .end) (s .kept .definitions) (m .destination) (m .title) x (rw e at d) p)) k
+  title-nowhere e k = ours (λ text w t s m ms x a y q p. (let d = newest-is (a .held) y q .destination in nowhere-title (regionAt heldAt (w .work)) (b .links .end) (s .kept .definitions) (m .destination) (m .title) x (rw e at d) p)) k
 
   pub title-own : {n : Piece} → b .links .media .destination ≡ D.Own n → ShowsOwnTitle b work out r work′ out′ → OnShown Known View (show title) b work out definitions r work′ out′
-  title-own {n} e k = ours (λ text w t s m ms x a y q p. (let d = newest-is (a .held) y q .destination in own-title (regionAt 16384 (w .work)) (b .links .end) n (s .kept .definitions) (m .destination) (m .title) x (rw e at d) p)) k
+  title-own {n} e k = ours (λ text w t s m ms x a y q p. (let d = newest-is (a .held) y q .destination in own-title (regionAt heldAt (w .work)) (b .links .end) n (s .kept .definitions) (m .destination) (m .title) x (rw e at d) p)) k
 
   pub title-defined : {n : ℕ} → b .links .media .destination ≡ D.Defined n → ShowsKeptTitle n b work out definitions r work′ out′ → OnShown Known View (show title) b work out definitions r work′ out′
   title-defined {n} e k = record {
@@ -82,7 +83,7 @@ module _ {View : Turn → Type 0} {b r : Whole} {work out definitions work′ ou
           let h = shown-there title t s u p in
           let z = title-bytes (t .options) (s .kept .definitions) (h .newest) (h .bytes) (h .bytes-are) in
           let d = newest-is (a .held) y (h .media-is) .destination in
-          let c = defined-title (regionAt 16384 (w .work)) (b .links .end) n (s .kept .definitions) (h .newest .destination) (h .newest .title) (z .0) (rw e at d) (z .1) in
+          let c = defined-title (regionAt heldAt (w .work)) (b .links .end) n (s .kept .definitions) (h .newest .destination) (h .newest .title) (z .0) (rw e at d) (z .1) in
           let g : push (orNone (c .0 .title) titleText) s ≡ u = ap (λ (o : Option (List ℕ)). push (orNone o titleText) s) (c .2) ∙ ap (λ (c : List ℕ). push c s) (z .2) ∙ h .then-is in
           rw (← g) (k .shows text w s (c .0) i j f a y (c .1));
     };

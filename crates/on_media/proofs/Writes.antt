@@ -8,6 +8,7 @@ use native.Mathlib.Omega.{arith}
 use lib.ListN.{length, take, drop}
 use lib.Seq.{drop-drop}
 use Rattle.lent.specs.Bytes.{bytes}
+use Rattle.regions.specs.Sizes.{regionSize, heldAt}
 use Rattle.machine.specs.State.{State}
 use Rattle.machine.specs.Outcome.{go}
 use Rattle.machine.specs.Set.{setCaptures}
@@ -48,11 +49,11 @@ module _ {b : Whole} {work out work′ out′ : List ℕ} {x : Buffers} where
   }
 
 -- a region behind the captures is the same where the bytes behind them are
-region-same : (base : ℕ) (v w : List ℕ) → 16384 ≤ base → drop 16384 v ≡ drop 16384 w → regionAt base v ≡ regionAt base w
+region-same : (base : ℕ) (v w : List ℕ) → heldAt ≤ base → drop regionSize v ≡ drop regionSize w → regionAt base v ≡ regionAt base w
 region-same base v w h p =
-    let e : 16384 + (base - 16384) ≡ base = omega arith in
-    let q : drop base v ≡ drop base w = ap (λ (n : ℕ). drop n v) (sym e) ∙ sym (drop-drop (base - 16384) 16384 v) ∙ ap (drop (base - 16384)) p ∙ drop-drop (base - 16384) 16384 w ∙ ap (λ (n : ℕ). drop n w) e in
-    ap (take 16384) q
+    let e : regionSize + (base - regionSize) ≡ base = omega arith in
+    let q : drop base v ≡ drop base w = ap (λ (n : ℕ). drop n v) (sym e) ∙ sym (drop-drop (base - regionSize) regionSize v) ∙ ap (drop (base - regionSize)) p ∙ drop-drop (base - regionSize) regionSize w ∙ ap (λ (n : ℕ). drop n w) e in
+    ap (take regionSize) q
 
 pub shows-title : {base place m : ℕ} {b x y z : Buffers} {w0 o0 w1 o1 w2 o2 w3 o3 : List ℕ} → ShowsText (bytes " title=\"") b w0 o0 x w1 o1 → ShowsPiece asIs base place m x w1 o1 y w2 o2 → ShowsText (bytes "\"") y w2 o2 z w3 o3
     → length w1 ≡ length w0 → length w2 ≡ length w1 → ShowsPiece titleText base place m b w0 o0 z w3 o3

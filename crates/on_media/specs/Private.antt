@@ -4,6 +4,7 @@ use mathlib.Core.List.{List, _∷_}
 use mathlib.Core.Option.{some}
 use Prim.Native.Nat.{ℕ, _+_, _≤_}
 use lib.ListN.{take, drop, getElem?}
+use Rattle.regions.specs.Sizes.{regionSize, heldAt, keptAt}
 use Rattle.machine.specs.State as State
 use Rattle.machine.specs.State.{State}
 use Rattle.machine.specs.Buffers.{push}
@@ -15,7 +16,7 @@ use Rattle.on_definition.specs.Definitions.{Known}
 
 -- a piece of a region, as f makes it
 pub record WritesPiece (f : List ℕ → List ℕ) (base place n : ℕ) (b : Whole) (work out : List ℕ) (r : Whole) (work′ out′ : List ℕ) : Type 0 where
-  pub writes : (text c : List ℕ) (w : World) (s : State) → w .work ≡ work → w .out ≡ out → 16384 ≤ base → base ≤ 32768 → place + n ≤ 16384 → take n (drop place (regionAt base (w .work))) ≡ c → Built text b w s
+  pub writes : (text c : List ℕ) (w : World) (s : State) → w .work ≡ work → w .out ≡ out → heldAt ≤ base → base ≤ keptAt → place + n ≤ regionSize → take n (drop place (regionAt base (w .work))) ≡ c → Built text b w s
       → Built text r (withOut out′ (withWork work′ w)) (push (f c) s)
 
 -- the newest medium's own title, where it has one

@@ -1,5 +1,6 @@
 // The end of a link or an image, by its Rust name: where it leads, its label and its title are written.
 ghost use Prim.Native.Nat.{_≤_};
+ghost use Rattle.regions.specs.Sizes.{keptAt};
 ghost use Rattle.machine.specs.Turn.{urlOf};
 ghost use Rattle.machine.specs.Media.{label, destination, title, titleText};
 ghost use Rattle.machine.specs.Words.{show, when, unless, put, tag, leaveImage};
@@ -42,7 +43,7 @@ fn write_piece(
     place: usize,
     n: usize,
 ) -> Whole
-    requires { ⌜ base ≤ 32768 ⌝ }
+    requires { ⌜ base ≤ keptAt ⌝ }
     ensures { λ r. ⌜ WritesPiece asIs base place n b (now (work .entry)) (now (out .entry)) r (now (work .exit)) (now (out .exit)) ⌝ }
 {
     let mut r = b;
@@ -62,7 +63,7 @@ fn write_url(
     options: Options,
     image: bool,
 ) -> Whole
-    requires { ⌜ base ≤ 32768 ⌝ }
+    requires { ⌜ base ≤ keptAt ⌝ }
     ensures { λ r. ⌜ WritesPiece (urlOf options image) base place n b (now (work .entry)) (now (out .entry)) r (now (work .exit)) (now (out .exit)) ⌝ }
 {
     let mut r = b;
@@ -89,7 +90,7 @@ fn write_title(
     place: usize,
     n: usize,
 ) -> Whole
-    requires { ⌜ base ≤ 32768 ⌝ }
+    requires { ⌜ base ≤ keptAt ⌝ }
     ensures { λ r. ⌜ WritesPiece titleText base place n b (now (work .entry)) (now (out .entry)) r (now (work .exit)) (now (out .exit)) ⌝ }
 {
     let mut r = b;
@@ -111,7 +112,7 @@ pub fn show_label(b: Whole, work: &mut [u8], out: &mut [u8]) -> Whole
     let x = m.label;
     match x {
         Text::Unset => b,
-        Text::Is(p) => write_piece(b, work, out, 16384, p.place, p.length),
+        Text::Is(p) => write_piece(b, work, out, regions::HELD_AT, p.place, p.length),
     }
 }
 
@@ -130,11 +131,20 @@ pub fn show_destination(
     let d = m.destination;
     match d {
         Destination::Nowhere => b,
-        Destination::Own(p) => write_url(b, work, out, 16384, p.place, p.length, options, image),
+        Destination::Own(p) => write_url(
+            b,
+            work,
+            out,
+            regions::HELD_AT,
+            p.place,
+            p.length,
+            options,
+            image,
+        ),
         Destination::Defined(k) => {
             let place = state_kept::definition_place(definitions, k);
             let n = state_kept::definition_length(definitions, k);
-            write_url(b, work, out, 32768, place, n, options, image)
+            write_url(b, work, out, regions::KEPT_AT, place, n, options, image)
         }
     }
 }
@@ -147,7 +157,7 @@ fn show_own_title(b: Whole, work: &mut [u8], out: &mut [u8]) -> Whole
     let x = m.title;
     match x {
         Text::Unset => b,
-        Text::Is(p) => write_title(b, work, out, 16384, p.place, p.length),
+        Text::Is(p) => write_title(b, work, out, regions::HELD_AT, p.place, p.length),
     }
 }
 
@@ -169,7 +179,7 @@ fn show_kept_title(
     let n = state_kept::definition_length(definitions, k);
     let from = on_definition::at_most(place);
     let skipped = on_definition::at_most(n);
-    write_title(b, work, out, 32768, from + skipped, word - 1)
+    write_title(b, work, out, regions::KEPT_AT, from + skipped, word - 1)
 }
 
 pub fn show_title(b: Whole, work: &mut [u8], out: &mut [u8], definitions: &[usize]) -> Whole

@@ -7,12 +7,13 @@ use native.Mathlib.Omega.{arith}
 use borrow.Author.Tests.{eqb-true}
 use lib.Dec.{eqb}
 use lib.ListN.{length}
+use Rattle.regions.specs.Sizes.{regionSize, heldAt}
 use Rattle.machine.specs.State.{State}
 use Rattle.machine.specs.Outcome.{Outcome, go, _>>=_, need}
 use Rattle.machine.specs.Set.{setSetext}
 use Rattle.machine.specs.Buffers.{push}
 use Rattle.machine.specs.Turn.{Turn}
-use Rattle.machine.specs.Totals.{size, mediaSizes, held}
+use Rattle.machine.specs.Totals.{size, mediaSizes, held, mostTotal}
 use Rattle.machine.specs.Command.{exec}
 use Rattle.machine.specs.Words.{release}
 use Rattle.machine.proofs.Outcomes.{never}
@@ -34,7 +35,7 @@ use Rattle.write_held.specs.Show.{asIs, ShowsPiece}
 
 module _ {b : Whole} {w : World} {text : List ℕ} {s : State} where
   -- where the end of the held bytes shows room, there is room
-  pub in-room : Held b → Built text b w s → held s ≤ 16384
+  pub in-room : Held b → Built text b w s → held s ≤ mostTotal
   in-room a y = let e = y .links .end in omega arith
 
   unheld : {l : Links} → Releases (b .links) l → mediaSizes (s .media) ≡ 0 → Held b → Built text b w s → Built text (withLinks l b) w (setSetext none s)
@@ -42,7 +43,7 @@ module _ {b : Whole} {w : World} {text : List ℕ} {s : State} where
     long = y .long;
     places = y .places;
     context = rel-alike (record { page = refl; captures = refl; flags = refl; rank = refl; seen = refl; fences = refl; marker = refl; first = refl; tight = refl; table = refl; fixed = refl }) (y .context);
-    links = k .releases (regionAt 16384 (w .work)) s z a (y .links);
+    links = k .releases (regionAt heldAt (w .work)) s z a (y .links);
     kept = keeps-same refl refl (y .kept);
   }
 
@@ -62,11 +63,11 @@ module _ {View : Turn → Type 0} {b : Whole} {work out : List ℕ} where
       handles = λ t s u v a y p.
           let g = done (eqb (mediaSizes (s .media)) 0) (need (s .waiting .setext) >>= λ c. go (push c (setSetext none s))) u p in
           let x = y .links .setext (in-room a y) in
-          text-not-there (regionAt 16384 (w .work)) (size (s .waiting .setext)) (s .waiting .setext) u (λ c. go (push c (setSetext none s))) (rw h at x) (g .went);
+          text-not-there (regionAt heldAt (w .work)) (size (s .waiting .setext)) (s .waiting .setext) u (λ c. go (push c (setSetext none s))) (rw h at x) (g .went);
     };
   }
 
-  pub releases : {p : Piece} {x : Buffers} {l : Links} {work′ out′ : List ℕ} → b .links .setext ≡ T.Is p → ShowsPiece asIs 16384 (p .place) (p .length) (b .context .buffers) work out x work′ out′ → length work′ ≡ length work → Releases (b .links) l
+  pub releases : {p : Piece} {x : Buffers} {l : Links} {work′ out′ : List ℕ} → b .links .setext ≡ T.Is p → ShowsPiece asIs regionSize (p .place) (p .length) (b .context .buffers) work out x work′ out′ → length work′ ≡ length work → Releases (b .links) l
       → OnPage Held View release b work out (withLinks l (withContext (withBuffers x (b .context)) b)) work′ out′
   unfolding within exec
   releases {p} {x} {l} {work′} {out′} h k n r = record {
@@ -74,7 +75,7 @@ module _ {View : Turn → Type 0} {b : Whole} {work out : List ℕ} where
       handles = λ t s u v a y q.
           let g = done (eqb (mediaSizes (s .media)) 0) (need (s .waiting .setext) >>= λ c. go (push c (setSetext none s))) u q in
           let z = y .links .setext (in-room a y) in
-          let f = text-there (regionAt 16384 (w .work)) (size (s .waiting .setext)) p (s .waiting .setext) u (λ c. go (push c (setSetext none s))) (rw h at z) (g .went) in
+          let f = text-there (regionAt heldAt (w .work)) (size (s .waiting .setext)) p (s .waiting .setext) u (λ c. go (push c (setSetext none s))) (rw h at z) (g .went) in
           let e : push (f .0) (setSetext none s) ≡ u = cc-go (f .2) in
           let k′ = rw (← i, ← j) at k in
           let st = k′ .shows (f .0) (y .long) (omega arith) (omega arith) (f .1 .inside) (f .1 .bytes) in

@@ -65,22 +65,22 @@ fn push_end(c: Context, dashes: bool, captures: &mut [u8], out: &mut [u8]) -> Co
 fn start_heading(b: Whole, dashes: bool, work: &mut [u8], out: &mut [u8]) -> Whole
     ensures { λ r. ⌜ OnPage Always (Underlined dashes) (lineEndingIfNeeded ▸ put "<h" ▸ setextRank ▸ put ">") b (now (work .entry)) (now (out .entry)) r (now (work .exit)) (now (out .exit)) ⌝ }
 {
-    if work.len() < 16384 {
+    if work.len() < regions::SIZE {
         return b;
     }
     let mut r = b;
-    r.context = push_start(b.context, dashes, &mut work[0..16384], out);
+    r.context = push_start(b.context, dashes, &mut work[0..regions::SIZE], out);
     r
 }
 
 fn end_heading(b: Whole, dashes: bool, work: &mut [u8], out: &mut [u8]) -> Whole
     ensures { λ r. ⌜ OnPage Always (Underlined dashes) (put "</h" ▸ setextRank ▸ put ">") b (now (work .entry)) (now (out .entry)) r (now (work .exit)) (now (out .exit)) ⌝ }
 {
-    if work.len() < 16384 {
+    if work.len() < regions::SIZE {
         return b;
     }
     let mut r = b;
-    r.context = push_end(b.context, dashes, &mut work[0..16384], out);
+    r.context = push_end(b.context, dashes, &mut work[0..regions::SIZE], out);
     r
 }
 
@@ -99,7 +99,7 @@ fn release_text(b: Whole, work: &mut [u8], out: &mut [u8]) -> Whole
                 b.context.buffers,
                 work,
                 out,
-                16384,
+                regions::HELD_AT,
                 p.place,
                 p.length,
             );

@@ -14,6 +14,7 @@ use Rattle.lent.specs.Fill.{fill, past, Filled}
 use Rattle.lent.proofs.Laws.{byte-below, rest-behind, front-before, fill-behind, and-left, and-right, fill-before-end, fill-out, fill-cut, length-fill, copied, copy-none, copy-end}
 use Rattle.regions.specs.Regions.{regionAt, Carried, Carries}
 use Rattle.regions.specs.Private.{Apart, isApart}
+use Rattle.regions.specs.Sizes.{regionSize, heldAt, keptAt, noRoom}
 
 -- ---- the loop
 
@@ -66,17 +67,17 @@ module _ (len from n to : ℕ) where
   unfolding isApart
   no-source h = rw (lt-leb (from + n) len h)
 
-  no-target : from + n ≤ len → len < to + 16384 → false ≡ isApart len from n to
+  no-target : from + n ≤ len → len < to + regionSize → false ≡ isApart len from n to
   unfolding isApart
-  no-target h k = rw (le-leb (from + n) len h, lt-leb (to + 16384) len k)
+  no-target h k = rw (le-leb (from + n) len h, lt-leb (to + regionSize) len k)
 
-  is-before : from + n ≤ len → to + 16384 ≤ len → from + n ≤ to → true ≡ isApart len from n to
+  is-before : from + n ≤ len → to + regionSize ≤ len → from + n ≤ to → true ≡ isApart len from n to
   unfolding isApart
-  is-before h k l = rw (le-leb (from + n) len h, le-leb (to + 16384) len k, le-leb (from + n) to l)
+  is-before h k l = rw (le-leb (from + n) len h, le-leb (to + regionSize) len k, le-leb (from + n) to l)
 
-  is-behind : from + n ≤ len → to + 16384 ≤ len → to < from + n → leb (to + 16384) from ≡ isApart len from n to
+  is-behind : from + n ≤ len → to + regionSize ≤ len → to < from + n → leb (to + regionSize) from ≡ isApart len from n to
   unfolding isApart
-  is-behind h k l = rw (le-leb (from + n) len h, le-leb (to + 16384) len k, lt-leb (from + n) to l)
+  is-behind h k l = rw (le-leb (from + n) len h, le-leb (to + regionSize) len k, lt-leb (from + n) to l)
 
   -- as the code asks
   pub too-many : len < n → false ≡ isApart len from n to
@@ -85,34 +86,34 @@ module _ (len from n to : ℕ) where
   pub too-far : n ≤ len → len - n < from → false ≡ isApart len from n to
   too-far h k = no-source (omega arith)
 
-  pub too-short : n ≤ len → from ≤ len - n → len < 16384 → false ≡ isApart len from n to
+  pub too-short : n ≤ len → from ≤ len - n → len < regionSize → false ≡ isApart len from n to
   too-short h k l = no-target (omega arith) (omega arith)
 
-  pub too-high : n ≤ len → from ≤ len - n → 16384 ≤ len → len - 16384 < to → false ≡ isApart len from n to
+  pub too-high : n ≤ len → from ≤ len - n → regionSize ≤ len → len - regionSize < to → false ≡ isApart len from n to
   too-high h k l m = no-target (omega arith) (omega arith)
 
-  pub below : n ≤ len → from ≤ len - n → 16384 ≤ len → to ≤ len - 16384 → from + n ≤ to → true ≡ isApart len from n to
+  pub below : n ≤ len → from ≤ len - n → regionSize ≤ len → to ≤ len - regionSize → from + n ≤ to → true ≡ isApart len from n to
   below h k l m o = is-before (omega arith) (omega arith) o
 
-  pub above : n ≤ len → from ≤ len - n → 16384 ≤ len → to ≤ len - 16384 → to < from + n → leb (to + 16384) from ≡ isApart len from n to
+  pub above : n ≤ len → from ≤ len - n → regionSize ≤ len → to ≤ len - regionSize → to < from + n → leb (to + regionSize) from ≡ isApart len from n to
   above h k l m o = is-behind (omega arith) (omega arith) o
 
-  pub apart-is : isApart len from n to ≡ true → (from + n ≤ len) × (to + 16384 ≤ len) × ((from + n ≤ to) ⊎ (to + 16384 ≤ from))
+  pub apart-is : isApart len from n to ≡ true → (from + n ≤ len) × (to + regionSize ≤ len) × ((from + n ≤ to) ⊎ (to + heldAt ≤ from))
   unfolding isApart
   apart-is p =
       let a = leb (from + n) len in
-      let b = leb (to + 16384) len in
-      let e = leb (from + n) to || leb (to + 16384) from in
+      let b = leb (to + regionSize) len in
+      let e = leb (from + n) to || leb (to + regionSize) from in
       let q = and-left (a && b) e p in
-      (leb-true (from + n) len (and-left a b q), leb-true (to + 16384) len (and-right a b q), either (leb (from + n) to) refl (and-right (a && b) e p))
+      (leb-true (from + n) len (and-left a b q), leb-true (to + regionSize) len (and-right a b q), either (leb (from + n) to) refl (and-right (a && b) e p))
     where
-      either : (x : Bool) → leb (from + n) to ≡ x → (x || leb (to + 16384) from) ≡ true → (from + n ≤ to) ⊎ (to + 16384 ≤ from)
+      either : (x : Bool) → leb (from + n) to ≡ x → (x || leb (to + regionSize) from) ≡ true → (from + n ≤ to) ⊎ (to + heldAt ≤ from)
       either true q r = inl (leb-true (from + n) to q)
-      either false q r = inr (leb-true (to + 16384) from r)
+      either false q r = inr (leb-true (to + regionSize) from r)
 
-  apart-so : from + n ≤ len → to + 16384 ≤ len → (from + n ≤ to) ⊎ (to + 16384 ≤ from) → isApart len from n to ≡ true
+  apart-so : from + n ≤ len → to + regionSize ≤ len → (from + n ≤ to) ⊎ (to + heldAt ≤ from) → isApart len from n to ≡ true
   apart-so h k (inl l) = sym (is-before h k l)
-  apart-so h k (inr l) = sym (is-behind h k (omega arith)) ∙ le-leb (to + 16384) from l
+  apart-so h k (inr l) = sym (is-behind h k (omega arith)) ∙ le-leb (to + regionSize) from l
 
 -- ---- what is carried
 
@@ -120,48 +121,48 @@ module _ {w : List ℕ} {from n to at : ℕ} where
   pub not-apart : {x : Bool} {r : ℕ} → x ≡ isApart (length w) from n to → not x ≡ true → Carries w from n to at w r
   not-apart {x} i p = record { carries = λ h k j o. (let q = sym (apart-so (length w) from n to h k o) ∙ sym i ∙ not-true x p in let y : _≡_ {A = ℕ} 0 1 = cc in absurd (omega arith)) }
 
-  pub too-full : 16384 < at → Carries w from n to at w at
+  pub too-full : regionSize < at → Carries w from n to at w at
   too-full h = record {
     carries = λ a b v o.
-        let l : length (regionAt to w) ≡ 16384 = simp (length-take, length-drop) (omega arith) in
+        let l : length (regionAt to w) ≡ regionSize = simp (length-take, length-drop) (omega arith) in
         record { filled = record { bytes = sym (fill-out (regionAt to w) at (take n (drop from w)) (omega arith)); place = omega arith }; before = refl; behind = refl };
   }
 
-  pub too-high-up : {r : ℕ} → 32768 < to → Carries w from n to at w r
+  pub too-high-up : {r : ℕ} → keptAt < to → Carries w from n to at w r
   too-high-up h = record { carries = λ a b v o. absurd (omega arith) }
 
-  pub carried : {w′ : List ℕ} {m r : ℕ} → at ≤ 16384 → m ≡ min n (16384 - at) → w′ ≡ fill w (to + at) (take m (drop from w)) → r ≡ min (at + n) 16385 → Carries w from n to at w′ r
+  pub carried : {w′ : List ℕ} {m r : ℕ} → at ≤ regionSize → m ≡ min n (regionSize - at) → w′ ≡ fill w (to + at) (take m (drop from w)) → r ≡ min (at + n) noRoom → Carries w from n to at w′ r
   carried {w′} {m} {r} h i j e = record {
     carries = λ a b v o.
-        let l : length (regionAt to w) ≡ 16384 = simp (length-take, length-drop) (omega arith) in
+        let l : length (regionAt to w) ≡ regionSize = simp (length-take, length-drop) (omega arith) in
         let s = take n (drop from w) in
         let y : length s ≡ n = simp (length-take, length-drop) (omega arith) in
         let x : length (take m (drop from w)) ≡ m = simp (length-take, length-drop) (omega arith) in
-        let z : to + at + length (take m (drop from w)) ≤ to + 16384 = omega arith in
+        let z : to + at + length (take m (drop from w)) ≤ to + regionSize = omega arith in
         record {
           filled = record { bytes = region l y x; place = omega arith };
           before = rw j (front-before w (to + at) (take m (drop from w)) to (omega arith));
-          behind = rw j (rest-behind w (to + at) (take m (drop from w)) (to + 16384) z);
+          behind = rw j (rest-behind w (to + at) (take m (drop from w)) (to + regionSize) z);
         };
   }
     where
-      region : length (regionAt to w) ≡ 16384 → length (take n (drop from w)) ≡ n → length (take m (drop from w)) ≡ m → regionAt to w′ ≡ fill (regionAt to w) at (take n (drop from w))
+      region : length (regionAt to w) ≡ regionSize → length (take n (drop from w)) ≡ n → length (take m (drop from w)) ≡ m → regionAt to w′ ≡ fill (regionAt to w) at (take n (drop from w))
       region l y x =
-          let g : take 16384 (drop to w′) ≡ fill (regionAt to w) at (take m (drop from w)) =
-          rw (j, fill-behind to w at (take m (drop from w))) (fill-before-end 16384 (drop to w) at (take m (drop from w)) (omega arith)) in
+          let g : take regionSize (drop to w′) ≡ fill (regionAt to w) at (take m (drop from w)) =
+          rw (j, fill-behind to w at (take m (drop from w))) (fill-before-end regionSize (drop to w) at (take m (drop from w)) (omega arith)) in
           let c : take m (drop from w) ≡ take m (take n (drop from w)) = sym (take-take m n (drop from w) (omega arith)) in
           g ∙ rw c cut
         where
           cut : fill (regionAt to w) at (take m (take n (drop from w))) ≡ fill (regionAt to w) at (take n (drop from w))
           cut =
-              elim (decLe n (16384 - at)) [
+              elim (decLe n (regionSize - at)) [
                 | yes k ↦ ap (fill (regionAt to w) at) (take-all m (take n (drop from w)) (omega arith))
                 | no k ↦ fill-cut (regionAt to w) at m (take n (drop from w)) (omega arith) (omega arith)
               ]
 
-pub apart-there : (w : List ℕ) (from n to at m : ℕ) {x : Bool} → x ≡ isApart (length w) from n to → not x ≡ false → at ≤ 16384 → m ≡ min n (16384 - at) → Apart w from m (to + at)
+pub apart-there : (w : List ℕ) (from n to at m : ℕ) {x : Bool} → x ≡ isApart (length w) from n to → not x ≡ false → at ≤ regionSize → m ≡ min n (regionSize - at) → Apart w from m (to + at)
 apart-there w from n to at m {x} i p h e = let q = apart-is (length w) from n to (sym i ∙ not-false x p) in let a = q .0 in let b = q .1 in record { source = omega arith; target = omega arith; apart = on (q .2) }
   where
-    on : (from + n ≤ to) ⊎ (to + 16384 ≤ from) → (from + m ≤ to + at) ⊎ (to + at + m ≤ from)
+    on : (from + n ≤ to) ⊎ (to + heldAt ≤ from) → (from + m ≤ to + at) ⊎ (to + at + m ≤ from)
     on (inl k) = inl (omega arith)
     on (inr k) = inr (omega arith)

@@ -1,2 +1,3 @@
+pub mod Sizes
 pub mod Regions
 pub mod Private

@@ -5,6 +5,7 @@ use mathlib.Core.Logic.{_⊎_}
 use Prim.Native.Nat.{ℕ, _+_, _≤_}
 use lib.Dec.{leb}
 use lib.ListN.{length}
+use Rattle.regions.specs.Sizes.{regionSize}
 
 pub record Apart (w : List ℕ) (from n at : ℕ) : Type 0 where
   pub source : from + n ≤ length w
@@ -12,4 +13,4 @@ pub record Apart (w : List ℕ) (from n at : ℕ) : Type 0 where
   pub apart : (from + n ≤ at) ⊎ (at + n ≤ from)
 
 unfoldable pub isApart : (len from n to : ℕ) → Bool
-isApart len from n to = leb (from + n) len && leb (to + 16384) len && (leb (from + n) to || leb (to + 16384) from)
+isApart len from n to = leb (from + n) len && leb (to + regionSize) len && (leb (from + n) to || leb (to + regionSize) from)

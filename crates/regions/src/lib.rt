@@ -5,6 +5,18 @@ ghost use lib.ListN.{take, drop};
 ghost use Rattle.lent.specs.Fill.{fill};
 ghost use Rattle.regions.specs.Regions.{Carries};
 ghost use Rattle.regions.specs.Private.{Apart, isApart};
+ghost use Rattle.regions.specs.Sizes.{regionSize, noRoom};
+
+// A region.
+pub const SIZE: usize = 16384;
+// Where the held bytes and the kept bytes start; the captures start at 0.
+pub const HELD_AT: usize = SIZE;
+
+pub const KEPT_AT: usize = 2 * SIZE;
+// All three.
+pub const WORK: usize = 3 * SIZE;
+// An end that says that the bytes had no room in their region.
+pub const NO_ROOM: usize = SIZE + 1;
 
 // Copies n bytes to a place apart from them.
 fn copy(w: &mut [u8], from: usize, n: usize, at: usize)
@@ -21,10 +33,10 @@ fn copy(w: &mut [u8], from: usize, n: usize, at: usize)
 
 // How many of n bytes fit at a place of a region.
 fn fitting(at: usize, n: usize) -> usize
-    requires { ⌜ at ≤ 16384 ⌝ }
-    ensures { λ r. ⌜ r ≡ min n (16384 - at) ⌝ }
+    requires { ⌜ at ≤ regionSize ⌝ }
+    ensures { λ r. ⌜ r ≡ min n (regionSize - at) ⌝ }
 {
-    let room = 16384 - at;
+    let room = SIZE - at;
     if room < n {
         return room;
     }
@@ -33,11 +45,11 @@ fn fitting(at: usize, n: usize) -> usize
 
 // The place behind n bytes, or the one that says that they had no room.
 fn behind(at: usize, n: usize) -> usize
-    requires { ⌜ at ≤ 16384 ⌝ }
-    ensures { λ r. ⌜ r ≡ min (at + n) 16385 ⌝ }
+    requires { ⌜ at ≤ regionSize ⌝ }
+    ensures { λ r. ⌜ r ≡ min (at + n) noRoom ⌝ }
 {
-    if 16384 - at < n {
-        return 16385;
+    if SIZE - at < n {
+        return NO_ROOM;
     }
     at + n
 }
@@ -52,16 +64,16 @@ fn is_apart(len: usize, from: usize, n: usize, to: usize) -> bool
     if len - n < from {
         return false;
     }
-    if len < 16384 {
+    if len < SIZE {
         return false;
     }
-    if len - 16384 < to {
+    if len - SIZE < to {
         return false;
     }
     if from + n <= to {
         return true;
     }
-    to + 16384 <= from
+    to + SIZE <= from
 }
 
 // Appends n bytes from a place of the work bytes on at the place `at` of the region that starts at `to`.
@@ -71,10 +83,10 @@ pub fn carry(w: &mut [u8], from: usize, n: usize, to: usize, at: usize) -> usize
     if !is_apart(w.len(), from, n, to) {
         return at;
     }
-    if 16384 < at {
+    if SIZE < at {
         return at;
     }
-    if 32768 < to {
+    if KEPT_AT < to {
         return at;
     }
     let m = fitting(at, n);

@@ -5,6 +5,7 @@ use mathlib.Core.List.{List, [], _++_}
 use Prim.Native.Nat.{ℕ, _+_, _-_, _/_, _≤_, _<_}
 use native.Mathlib.Omega.{arith}
 use lib.ListN.{length, take, drop}
+use Rattle.regions.specs.Sizes.{regionSize, workSize}
 use Rattle.event.specs.Event.{eventAt}
 use Rattle.machine.specs.declared.Options.{Options}
 use Rattle.machine.specs.Turn.{Turn}
@@ -57,10 +58,10 @@ ends-so : (definitions : Bool) {text events : List ℕ} (o : Options) {room : �
 ends-so definitions {text} {events} o inside i h x = let z = left-end definitions text events o inside i h in rw (← z) x
 
 -- the work bytes are as long where the captures' part of them is
-pub lent-long : (captures work : List ℕ) → length captures ≡ length (take 16384 work) → length work ≡ 49152 → length (captures ++ drop 16384 work) ≡ 49152
+pub lent-long : (captures work : List ℕ) → length captures ≡ length (take regionSize work) → length work ≡ workSize → length (captures ++ drop regionSize work) ≡ workSize
 lent-long captures work p l = as-long captures work (p ∙ front-long work l) l
 
-pub lent-same : (captures work : List ℕ) {n : ℕ} → length captures ≡ length (take 16384 work) → length work ≡ 49152 → length work ≡ n → length (captures ++ drop 16384 work) ≡ n
+pub lent-same : (captures work : List ℕ) {n : ℕ} → length captures ≡ length (take regionSize work) → length work ≡ workSize → length work ≡ n → length (captures ++ drop regionSize work) ≡ n
 lent-same captures work p l q = lent-long captures work p l ∙ sym l ∙ q
 
 -- ---- steps

@@ -1,6 +1,7 @@
 // A pass over the events, definitions or all else, and after each event the limits.
 ghost use mathlib.Core.Path.{_≡_};
 ghost use lib.ListN.{length};
+ghost use Rattle.regions.specs.Sizes.{workSize};
 ghost use Rattle.state_kept.specs.Kept.{tables};
 ghost use Rattle.dispatch_turns.specs.Loud.{world};
 ghost use Rattle.run_pass.specs.Passing.{Passes};
@@ -31,7 +32,7 @@ pub fn pass(
     calls: &mut [usize],
     labels: &mut [usize],
 ) -> Passed
-    requires { ⌜ length (now work) ≡ 49152 ⌝ }
+    requires { ⌜ length (now work) ≡ workSize ⌝ }
     ensures { λ r. ⌜ Passes first (now (text .entry)) (now (events .entry)) options b (world (now (work .entry)) (now (out .entry)) (now (starts .entry)) (tables (now (definitions .entry)) (now (footnotes .entry)) (now (calls .entry)) (now (labels .entry)))) r (world (now (work .exit)) (now (out .exit)) (now (starts .exit)) (tables (now (definitions .exit)) (now (footnotes .exit)) (now (calls .exit)) (now (labels .exit)))) ⌝ }
 {
     let n = event::count(events);
@@ -69,7 +70,7 @@ pub fn pass(
             continue;
         }
         let c = r.context;
-        let captures = &mut work[0..16384];
+        let captures = &mut work[0..regions::SIZE];
         if e.is_enter() {
             let html = options.allow_dangerous_html;
             r.context = dispatch_enter::on_enter(c, e, html, captures, starts, out);

@@ -8,6 +8,7 @@ use borrow.Author.Tests.{le-ltb}
 use lib.Dec.{eqb}
 use lib.ListN.{length}
 use borrow.Author.Tests.{eq-eqb, ne-eqb, eqb-true, eqb-false}
+use Rattle.regions.specs.Sizes.{workSize}
 use Rattle.event.specs.declared.EventIndex.{EventIndex}
 use Rattle.event.specs.Event.{eventsOf}
 use Rattle.event.proofs.Laws.{length-events}
@@ -116,7 +117,7 @@ module _ (text events : List ℕ) (o : Options) (room : ℕ) where
   start-roomy x = rw (le-ltb room 0 zero-le)
 
 pub renders : {text events : List ℕ} {o : Options} {ending : Ending} {b : Whole} {w : World} {out : List ℕ} {r : Rendered}
-    → Finds (o .ending) text events ending → Begun (fixedOf o ending) b → length (w .work) ≡ 49152 → length (w .starts) ≡ 64 → Long (w .tables) → FinishesAll true text events o b w out r → Renders text events o (w .out) out r
+    → Finds (o .ending) text events ending → Begun (fixedOf o ending) b → length (w .work) ≡ workSize → length (w .starts) ≡ 64 → Long (w .tables) → FinishesAll true text events o b w out r → Renders text events o (w .out) out r
 renders {text} {events} {o} {ending} {b} {w} {out} {r} f k l n t q = record {
   renders = λ g.
       let e = f .finds (g .ending) (g .found) in

@@ -14,7 +14,7 @@ use Rattle.machine.specs.Set.{setPage}
 use Rattle.machine.specs.Buffers.{push}
 use Rattle.machine.specs.Section.{footnoteSection}
 use Rattle.machine.specs.Test.{isEmpty}
-use Rattle.machine.specs.Totals.{captured, held, kept, over}
+use Rattle.machine.specs.Totals.{captured, held, kept, over, mostTotal}
 use Rattle.machine.specs.Run.{page, refused, finish, sectionEnd, runFrom}
 use Rattle.machine_clean.specs.Section.{Appends}
 use Rattle.state_buffers.proofs.Laws.{push-nil}
@@ -48,11 +48,11 @@ module _ (room : ℕ) (s u : State) (a : Appends s u) (q : s .captures ≡ []) (
 
   fits-so : (b : List ℕ) → length b ≤ room → over room (setPage b s) ≡ none
   unfolding over captured held kept
-  fits-so b h = rw (le-ltb 16384 (captured s) (totals .captures), le-ltb 16384 (held s) (totals .held-is), le-ltb 16384 (kept s) (totals .kept-is), le-ltb room (length b) h)
+  fits-so b h = rw (le-ltb mostTotal (captured s) (totals .captures), le-ltb mostTotal (held s) (totals .held-is), le-ltb mostTotal (kept s) (totals .kept-is), le-ltb room (length b) h)
 
   fits-not : (b : List ℕ) → room < length b → over room (setPage b s) ≡ some 9
   unfolding over captured held kept
-  fits-not b h = rw (le-ltb 16384 (captured s) (totals .captures), le-ltb 16384 (held s) (totals .held-is), le-ltb 16384 (kept s) (totals .kept-is), lt-ltb room (length b) h)
+  fits-not b h = rw (le-ltb mostTotal (captured s) (totals .captures), le-ltb mostTotal (held s) (totals .held-is), le-ltb mostTotal (kept s) (totals .kept-is), lt-ltb room (length b) h)
 
   pub section-fits : length (u .page) ≤ room → over room u ≡ none
   section-fits h = let e = ap (over room) grown in let l = ap (λ (x : State). length (x .page)) grown in e ∙ fits-so (s .page ++ a .text) (omega arith)

@@ -6,6 +6,7 @@ use Prim.Native.Nat.{ℕ, zero-le, _+_, _≤_}
 use native.Mathlib.Nat.{not-suc-le-zero}
 use native.Mathlib.Omega.{arith}
 use lib.ListN.{length, take, drop, length-take, length-drop, getElem?}
+use Rattle.regions.specs.Sizes.{regionSize, heldAt, workSize}
 use Rattle.machine.specs.declared.Fixed.{Fixed}
 use Rattle.machine.specs.State.{start}
 use Rattle.machine.specs.Totals.{held, kept}
@@ -18,7 +19,7 @@ use Rattle.state_context.specs.declared.Context.{Context}
 use Rattle.state_context.specs.Rel as Rel
 use Rattle.run_to_html.specs.Private.{Begun}
 
-region-long : (base : ℕ) (w : List ℕ) → length w ≡ 49152 → base + 16384 ≤ 49152 → length (regionAt base w) ≡ 16384
+region-long : (base : ℕ) (w : List ℕ) → length w ≡ workSize → base + regionSize ≤ workSize → length (regionAt base w) ≡ regionSize
 region-long base w l h = simp (length-take, length-drop) (omega arith)
 
 no-labels : (text from to : List ℕ) → Labels text from to 0 []
@@ -38,8 +39,8 @@ begun k =
       begun = λ text w l n t. record {
         long = l;
         places = n;
-        context = k .begun (take 16384 (w .work)) (w .out) (w .starts);
-        links = record { long = region-long 16384 (w .work) l (omega arith); images = record { count = refl; bits = refl; small = omega arith }; others = tt; end = refl; newest = λ h. tt; setext = λ h. tt };
+        context = k .begun (take regionSize (w .work)) (w .out) (w .starts);
+        links = record { long = region-long heldAt (w .work) l (omega arith); images = record { count = refl; bits = refl; small = omega arith }; others = tt; end = refl; newest = λ h. tt; setext = λ h. tt };
         kept = record {
           long = t;
           end = refl;

@@ -6,6 +6,7 @@ use Prim.Native.Nat.{ℕ}
 use lib.Dec.{eqb}
 use lib.ListN.{length}
 use Rattle.lent.specs.Bytes.{if_then_else_}
+use Rattle.regions.specs.Sizes.{workSize}
 use Rattle.event.specs.declared.EventIndex.{EventIndex}
 use Rattle.machine.specs.declared.Options.{Options}
 use Rattle.machine.specs.declared.Fixed.{Fixed}
@@ -28,7 +29,7 @@ overOf number place = if eqb number 8 then WorkFull place else PageFull place
 
 -- before the first event, whatever is lent
 pub record Begun (fixed : Fixed) (b : Whole) : Type 0 where
-  pub begun : (text : List ℕ) (w : World) → length (w .work) ≡ 49152 → length (w .starts) ≡ 64 → Long (w .tables) → Built text b w (start fixed)
+  pub begun : (text : List ℕ) (w : World) → length (w .work) ≡ workSize → length (w .starts) ≡ 64 → Long (w .tables) → Built text b w (start fixed)
 
 -- the last state of a run
 pub record Last (v : State) : Type 0 where

@@ -2,6 +2,7 @@
 ghost use mathlib.Core.Bool.{true, false};
 ghost use mathlib.Core.Path.{_≡_};
 ghost use lib.ListN.{length};
+ghost use Rattle.regions.specs.Sizes.{workSize};
 ghost use Rattle.state_kept.specs.Kept.{tables};
 ghost use Rattle.dispatch_turns.specs.Loud.{world};
 ghost use Rattle.run_to_html.specs.Renders.{Renders};
@@ -76,7 +77,7 @@ fn second(
     calls: &mut [usize],
     labels: &mut [usize],
 ) -> Rendered
-    requires { ⌜ length (now work) ≡ 49152 ⌝ }
+    requires { ⌜ length (now work) ≡ workSize ⌝ }
     ensures { λ r. ⌜ FinishesAll false (now (text .entry)) (now (events .entry)) options b (world (now (work .entry)) (now (out .entry)) (now (starts .entry)) (tables (now (definitions .entry)) (now (footnotes .entry)) (now (calls .entry)) (now (labels .entry)))) (now (out .exit)) r ⌝ }
 {
     let p = run_pass::pass(
@@ -113,7 +114,7 @@ fn compile(
     calls: &mut [usize],
     labels: &mut [usize],
 ) -> Rendered
-    requires { ⌜ length (now work) ≡ 49152 ⌝ }
+    requires { ⌜ length (now work) ≡ workSize ⌝ }
     ensures { λ r. ⌜ FinishesAll true (now (text .entry)) (now (events .entry)) options b (world (now (work .entry)) (now (out .entry)) (now (starts .entry)) (tables (now (definitions .entry)) (now (footnotes .entry)) (now (calls .entry)) (now (labels .entry)))) (now (out .exit)) r ⌝ }
 {
     let p = run_pass::pass(
@@ -156,14 +157,14 @@ pub fn to_html(
     out: &mut [u8],
     work: &mut [u8],
 ) -> Rendered
-    requires { ⌜ length (now work) ≡ 49152 ⌝ }
+    requires { ⌜ length (now work) ≡ workSize ⌝ }
     ensures { λ r. ⌜ Renders (now (text .entry)) (now (events .entry)) options (now (out .entry)) (now (out .exit)) r ⌝ }
 {
     let mut starts = [0usize; 64];
-    let mut definitions = [0usize; 896];
-    let mut footnotes = [0usize; 384];
-    let mut calls = [0usize; 320];
-    let mut labels = [0usize; 128];
+    let mut definitions = [0usize; state_kept::DEFINITION_WORDS];
+    let mut footnotes = [0usize; state_kept::FOOTNOTE_WORDS];
+    let mut calls = [0usize; state_kept::CALL_WORDS];
+    let mut labels = [0usize; state_kept::LABEL_WORDS];
     let default = options.ending;
     let ending = run_line_ending::find_ending(text, events, default);
     let names = options.names;

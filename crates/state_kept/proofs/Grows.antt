@@ -10,6 +10,7 @@ use Rattle.lent.specs.Fill.{Filled}
 use Rattle.lent.proofs.Laws.{front-before}
 use Rattle.lent.proofs.Laws as Lent
 use Rattle.regions.specs.Regions.{regionAt, Carried, Carries}
+use Rattle.regions.specs.Sizes.{regionSize, keptAt, workSize, noRoom}
 use Rattle.machine.specs.State.{State, Span, Definition, Footnote}
 use Rattle.machine.specs.Set.{setLabels, addDefinition, addFootnote}
 use Rattle.machine.specs.Totals.{size, definitionSizes, footnoteSizes, kept}
@@ -42,18 +43,18 @@ kept-footnote f ps s = let e = footnote-sizes (s .kept .footnotes) f in omega ar
 
 -- ---- the region
 
-pub long-region : (w : List ℕ) → 49152 ≤ length w → length (regionAt 32768 w) ≡ 16384
+pub long-region : (w : List ℕ) → workSize ≤ length w → length (regionAt keptAt w) ≡ regionSize
 long-region w h = simp (length-take, length-drop) (omega arith)
 
 module _ {region b region′ : List ℕ} {end end′ : ℕ} (f : Filled region end b region′ end′) where
   pub front : (m : ℕ) → m ≤ end → take m region′ ≡ take m region
   front m h = ap (take m) (f .bytes) ∙ front-before region end b m h
 
-  module _ (l : length region ≡ 16384) where
-    pub end-is : (total : ℕ) → end ≡ min total 16385 → end′ ≡ min (total + length b) 16385
+  module _ (l : length region ≡ regionSize) where
+    pub end-is : (total : ℕ) → end ≡ min total noRoom → end′ ≡ min (total + length b) noRoom
     end-is total e = let x = f .place in omega arith
 
-    pub appended : (n : ℕ) → n ≡ length b → end + n ≤ 16384 → Piece region′ end′ end n b
+    pub appended : (n : ℕ) → n ≡ length b → end + n ≤ regionSize → Piece region′ end′ end n b
     appended n e h =
         let x : end′ ≡ end + n = (let y = f .place in omega arith) in
         rw (x, f .bytes) (piece-new region end n b e (omega arith))
@@ -62,32 +63,35 @@ module _ {region b region′ : List ℕ} {end end′ : ℕ} (f : Filled region e
 
 -- the work bytes after b was carried behind the kept bytes
 pub record Carrying (w : List ℕ) (at : ℕ) (b w′ : List ℕ) (r : ℕ) : Type 0 where
-  pub filled : Filled (regionAt 32768 w) at b (regionAt 32768 w′) r
-  pub before : take 32768 w′ ≡ take 32768 w
+  pub filled : Filled (regionAt keptAt w) at b (regionAt keptAt w′) r
+  pub before : take keptAt w′ ≡ take keptAt w
 
-module _ {w : List ℕ} (long : 49152 ≤ length w) where
-  pub carrying : {from n at r : ℕ} {b w′ : List ℕ} → Piece w 32768 from n b → Carries w from n 32768 at w′ r → Carrying w at b w′ r
+none-filled : {d d′ : List ℕ} {at r : ℕ} → d′ ≡ d → r ≡ at → Filled d at [] d′ r
+none-filled {d} {at = at} p q = rw (p, q) (Lent.none d at)
+
+module _ {w : List ℕ} (long : workSize ≤ length w) where
+  pub carrying : {from n at r : ℕ} {b w′ : List ℕ} → Piece w keptAt from n b → Carries w from n keptAt at w′ r → Carrying w at b w′ r
   carrying {from} {n} {at} {r} {b} {w′} p g =
       let h = p .below in
-      let c : Carried w from n 32768 at w′ r = g .carries (omega arith) (omega arith) (omega arith) (inl h) in
+      let c : Carried w from n keptAt at w′ r = g .carries (omega arith) (omega arith) (omega arith) (inl h) in
       record { filled = rw (p .bytes) at (c .filled); before = c .before }
 
   -- a title, where there is one
-  pub title-carrying : {place at r : ℕ} {w′ : List ℕ} (title : ℕ) (b : Option (List ℕ)) → Optional w 32768 place title b → CarriesTitle w place title at w′ r → Carrying w at (orEmpty b) w′ r
-  title-carrying {at = at} {r = r} {w′ = w′} zero none p g = let e = g .missing refl in record { filled = rw (e .0, e .1) (Lent.none (regionAt 32768 w) at); before = ap (take 32768) (e .0) }
+  pub title-carrying : {place at r : ℕ} {w′ : List ℕ} (title : ℕ) (b : Option (List ℕ)) → Optional w keptAt place title b → CarriesTitle w place title at w′ r → Carrying w at (orEmpty b) w′ r
+  title-carrying {at = at} {r = r} {w′ = w′} zero none p g = let e = g .missing refl in record { filled = none-filled (ap (regionAt keptAt) (e .0)) (e .1); before = ap (take keptAt) (e .0) }
   title-carrying zero (some b) p g = absurd p
   title-carrying (suc n) none p g = absurd p
   title-carrying (suc n) (some b) p g = carrying p (g .there refl)
 
 -- a piece before the kept bytes is there when bytes were carried
-pub optional-before : (w w′ : List ℕ) → take 32768 w′ ≡ take 32768 w → (place title : ℕ) (b : Option (List ℕ)) → Optional w 32768 place title b → Optional w′ 32768 place title b
+pub optional-before : (w w′ : List ℕ) → take keptAt w′ ≡ take keptAt w → (place title : ℕ) (b : Option (List ℕ)) → Optional w keptAt place title b → Optional w′ keptAt place title b
 optional-before w w′ e place zero none p = p
 optional-before w w′ e place zero (some b) p = p
 optional-before w w′ e place (suc n) none p = p
-optional-before w w′ e place (suc n) (some b) p = record { long = p .long; below = p .below; bytes = part-same place n 32768 w w′ (p .below) e ∙ p .bytes }
+optional-before w w′ e place (suc n) (some b) p = record { long = p .long; below = p .below; bytes = part-same place n keptAt w w′ (p .below) e ∙ p .bytes }
 
 -- a title that was carried where all of it had room
-pub title-appended : {region region′ : List ℕ} {end end′ : ℕ} (w : List ℕ) (place title : ℕ) (b : Option (List ℕ)) → length region ≡ 16384 → Optional w 32768 place title b → Filled region end (orEmpty b) region′ end′ → end + length (orEmpty b) ≤ 16384 → Optional region′ end′ end title b
+pub title-appended : {region region′ : List ℕ} {end end′ : ℕ} (w : List ℕ) (place title : ℕ) (b : Option (List ℕ)) → length region ≡ regionSize → Optional w keptAt place title b → Filled region end (orEmpty b) region′ end′ → end + length (orEmpty b) ≤ regionSize → Optional region′ end′ end title b
 title-appended w place zero none l p f h = p
 title-appended w place zero (some b) l p f h = p
 title-appended w place (suc n) none l p f h = p

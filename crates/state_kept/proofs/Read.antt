@@ -6,13 +6,15 @@ use Prim.Native.Nat.{ℕ, zero, suc, _-_, _≤_, _<_}
 use native.Mathlib.Omega.{arith}
 use lib.ListN.{length, take, drop, getD, getElem?, length-take}
 use lib.Seq.{getD-take}
+use Rattle.regions.specs.Sizes.{regionSize}
 use Rattle.normalize_identifier.specs.Search.{parts, labelsOf}
 use Rattle.machine.specs.State.{State, Definition, Footnote, Call}
 use Rattle.machine.specs.Footnote.{callLabels}
-use Rattle.machine.specs.Totals.{kept}
+use Rattle.machine.specs.Totals.{kept, mostTotal}
 use Rattle.state_kept.specs.declared.Kept.{Kept}
 use Rattle.state_kept.specs.Kept.{column, LabelIs, Labels, Piece, DefinitionIs, tables, Keeps}
 use Rattle.state_kept.proofs.Lists.{index-low}
+use Rattle.state_kept.specs.Sizes.{noteRows}
 
 -- ---- labels
 
@@ -48,15 +50,15 @@ call-label-at (x ∷ cs) (suc i) c p = call-label-at cs i c p
 -- ---- rows
 
 module _ {k : Kept} {text region d f c l : List ℕ} {s : State} (t : Keeps k text region (tables d f c l) s) where
-  pub call-label : (i : ℕ) (x : Call) → getElem? (s .kept .calls) i ≡ some x → LabelIs text (getD (column 64 0 c) i 0) (getD (column 64 1 c) i 0) (x .label)
+  pub call-label : (i : ℕ) (x : Call) → getElem? (s .kept .calls) i ≡ some x → LabelIs text (getD (column noteRows 0 c) i 0) (getD (column noteRows 1 c) i 0) (x .label)
   call-label i x p = label-at i (x .label) (t .calls .labels) (call-label-at (s .kept .calls) i x p)
 
-  pub definition-is : kept s ≤ 16384 → (i : ℕ) (x : Definition) → getElem? (s .kept .definitions) i ≡ some x → DefinitionIs d region (k .end) i x
+  pub definition-is : kept s ≤ mostTotal → (i : ℕ) (x : Definition) → getElem? (s .kept .definitions) i ≡ some x → DefinitionIs d region (k .end) i x
   definition-is h i x p = (t .definitions h) .each i x p
 
-  pub body-is : kept s ≤ 16384 → (i : ℕ) (x : Footnote) → getElem? (s .kept .footnotes) i ≡ some x → Piece region (k .end) (getD (column 64 2 f) i 0) (getD (column 64 3 f) i 0) (x .body)
+  pub body-is : kept s ≤ mostTotal → (i : ℕ) (x : Footnote) → getElem? (s .kept .footnotes) i ≡ some x → Piece region (k .end) (getD (column noteRows 2 f) i 0) (getD (column noteRows 3 f) i 0) (x .body)
   body-is h i x p = (t .footnotes h) .each i x p
 
   -- the pieces' end lies in their region
-  pub end-low : kept s ≤ 16384 → k .end ≤ 16384
+  pub end-low : kept s ≤ mostTotal → k .end ≤ regionSize
   end-low h = omega (arith, t .end)

@@ -20,6 +20,7 @@ use Rattle.machine_bounded.specs.Within.{countable}
 use Rattle.state_kept.proofs.Lists.{long-more}
 use Rattle.state_kept.proofs.Labels.{call-labels-long}
 use Rattle.state_kept.proofs.Calls.{firstCall, count-new, count-long}
+use Rattle.state_kept.specs.Sizes.{noteRows}
 
 -- ---- what is found is there
 
@@ -45,7 +46,7 @@ call-index-low label cs = on (firstSame (callLabels cs) label) refl
 
 -- ---- a call can be counted
 
-pub index-fits : (i : ℕ) (label : List ℕ) (cs : List Call) → i ≤ length cs → length (countAt i label cs) ≤ 64 → i < 64
+pub index-fits : (i : ℕ) (label : List ℕ) (cs : List Call) → i ≤ length cs → length (countAt i label cs) ≤ noteRows → i < noteRows
 index-fits i label cs h k =
     elim (decLt i (length cs)) [
       | yes q ↦ (let x = count-long i label cs q in omega arith)

@@ -5,6 +5,7 @@ use Prim.Native.Nat.{ℕ, _+_, _≤_}
 use native.Mathlib.Omega.{arith}
 use lib.ListN.{take, drop}
 use lib.Seq.{drop-drop}
+use Rattle.regions.specs.Sizes.{regionSize}
 use Rattle.normalize_identifier.specs.Search.{parts, labelsOf}
 use Rattle.signature.specs.Signed.{Signs}
 use Rattle.regions.specs.Regions.{regionAt}
@@ -56,7 +57,7 @@ keeps-same {s = s} u e i h =
       labels = rw i (h .labels);
     }
 
-pub region-piece : {w b : List ℕ} (to : ℕ) {end place n : ℕ} → end ≤ 16384 → Piece (regionAt to w) end place n b → Piece w (to + 16384) (to + place) n b
+pub region-piece : {w b : List ℕ} (to : ℕ) {end place n : ℕ} → end ≤ regionSize → Piece (regionAt to w) end place n b → Piece w (to + regionSize) (to + place) n b
 region-piece {w} {b} to {end} {place} {n} h p =
     let x = p .below in
-    record { long = p .long; below = omega arith; bytes = ap (take n) (sym (drop-drop place to w)) ∙ sym (part-before place n 16384 (drop to w) (omega arith)) ∙ p .bytes }
+    record { long = p .long; below = omega arith; bytes = ap (take n) (sym (drop-drop place to w)) ∙ sym (part-before place n regionSize (drop to w) (omega arith)) ∙ p .bytes }

@@ -1,3 +1,4 @@
+pub mod Sizes
 pub mod Kept
 pub mod Contracts
 pub mod Private

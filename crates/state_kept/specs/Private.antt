@@ -4,6 +4,7 @@ use mathlib.Core.List.{List, [], _∷_}
 use Prim.Native.Nat.{ℕ, suc, _+_, _*_, _<_}
 use lib.ListN.{length, take, drop, set}
 use Rattle.regions.specs.Regions.{Carries}
+use Rattle.regions.specs.Sizes.{keptAt}
 use Rattle.normalize_identifier.specs.declared.Found.{Found}
 use Rattle.normalize_identifier.specs.Search.{firstSame}
 use Rattle.signature.specs.Signed.{Signs}
@@ -26,4 +27,4 @@ pub record FindsLabel (text : List ℕ) (from to : ℕ) (table : List ℕ) (rows
 -- nothing is carried for a title that is missing
 pub record CarriesTitle (work : List ℕ) (place title at : ℕ) (work′ : List ℕ) (r : ℕ) : Type 0 where
   pub missing : title ≡ 0 → (work′ ≡ work) × (r ≡ at)
-  pub there : {n : ℕ} → title ≡ suc n → Carries work place n 32768 at work′ r
+  pub there : {n : ℕ} → title ≡ suc n → Carries work place n keptAt at work′ r

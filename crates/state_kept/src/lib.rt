@@ -6,8 +6,54 @@ ghost use lib.ListN.{take, drop, getD};
 ghost use Rattle.state_kept.specs.Kept.{nothingKept, column};
 ghost use Rattle.state_kept.specs.Contracts.{OpensLabel, FindsCall, FindsDefinition, FindsFootnote, CountsCall, TellsTimes, KeepsFootnote, KeepsDefinition};
 ghost use Rattle.state_kept.specs.Private.{SetsRow, FindsLabel, CarriesTitle};
+ghost use Rattle.state_kept.specs.Sizes.{definitionRows, noteRows};
 use normalize_identifier::Found;
 use signature::Signature;
+
+// Rows: of the definitions; of the footnotes, of the calls and of the labels of open footnotes.
+const DEFINITIONS: usize = 128;
+
+const NOTES: usize = 64;
+// Where the columns of the definitions start, behind the first; and all words.
+const DEFINITION_TO: usize = DEFINITIONS;
+
+const DEFINITION_PLACE: usize = 2 * DEFINITIONS;
+
+const DEFINITION_LENGTH: usize = 3 * DEFINITIONS;
+
+const DEFINITION_TITLE: usize = 4 * DEFINITIONS;
+
+const DEFINITION_FIRST: usize = 5 * DEFINITIONS;
+
+const DEFINITION_SECOND: usize = 6 * DEFINITIONS;
+
+pub const DEFINITION_WORDS: usize = 7 * DEFINITIONS;
+// Of the footnotes.
+const FOOTNOTE_TO: usize = NOTES;
+
+const FOOTNOTE_PLACE: usize = 2 * NOTES;
+
+const FOOTNOTE_LENGTH: usize = 3 * NOTES;
+
+const FOOTNOTE_FIRST: usize = 4 * NOTES;
+
+const FOOTNOTE_SECOND: usize = 5 * NOTES;
+
+pub const FOOTNOTE_WORDS: usize = 6 * NOTES;
+// Of the calls.
+const CALL_TO: usize = NOTES;
+
+const CALL_TIMES: usize = 2 * NOTES;
+
+const CALL_FIRST: usize = 3 * NOTES;
+
+const CALL_SECOND: usize = 4 * NOTES;
+
+pub const CALL_WORDS: usize = 5 * NOTES;
+// Of the labels of open footnotes.
+const LABEL_TO: usize = NOTES;
+
+pub const LABEL_WORDS: usize = 2 * NOTES;
 
 pub struct Kept {
     // behind the kept bytes, in their region
@@ -52,47 +98,47 @@ fn word(table: &[usize], start: usize, n: usize, i: usize) -> usize
 
 // Where a definition's destination stands in the kept bytes.
 pub fn definition_place(definitions: &[usize], i: usize) -> usize
-    ensures { λ r. ⌜ r ≡ getD (column 128 2 (now (definitions .entry))) i 0 ⌝ }
+    ensures { λ r. ⌜ r ≡ getD (column definitionRows 2 (now (definitions .entry))) i 0 ⌝ }
 {
-    word(definitions, 256, 128, i)
+    word(definitions, DEFINITION_PLACE, DEFINITIONS, i)
 }
 
 pub fn definition_length(definitions: &[usize], i: usize) -> usize
-    ensures { λ r. ⌜ r ≡ getD (column 128 3 (now (definitions .entry))) i 0 ⌝ }
+    ensures { λ r. ⌜ r ≡ getD (column definitionRows 3 (now (definitions .entry))) i 0 ⌝ }
 {
-    word(definitions, 384, 128, i)
+    word(definitions, DEFINITION_LENGTH, DEFINITIONS, i)
 }
 
 // 0 without a title, else one more than its length; it stands behind the destination.
 pub fn definition_title(definitions: &[usize], i: usize) -> usize
-    ensures { λ r. ⌜ r ≡ getD (column 128 4 (now (definitions .entry))) i 0 ⌝ }
+    ensures { λ r. ⌜ r ≡ getD (column definitionRows 4 (now (definitions .entry))) i 0 ⌝ }
 {
-    word(definitions, 512, 128, i)
+    word(definitions, DEFINITION_TITLE, DEFINITIONS, i)
 }
 
 pub fn footnote_place(footnotes: &[usize], i: usize) -> usize
-    ensures { λ r. ⌜ r ≡ getD (column 64 2 (now (footnotes .entry))) i 0 ⌝ }
+    ensures { λ r. ⌜ r ≡ getD (column noteRows 2 (now (footnotes .entry))) i 0 ⌝ }
 {
-    word(footnotes, 128, 64, i)
+    word(footnotes, FOOTNOTE_PLACE, NOTES, i)
 }
 
 pub fn footnote_length(footnotes: &[usize], i: usize) -> usize
-    ensures { λ r. ⌜ r ≡ getD (column 64 3 (now (footnotes .entry))) i 0 ⌝ }
+    ensures { λ r. ⌜ r ≡ getD (column noteRows 3 (now (footnotes .entry))) i 0 ⌝ }
 {
-    word(footnotes, 192, 64, i)
+    word(footnotes, FOOTNOTE_LENGTH, NOTES, i)
 }
 
 // The label's place in the text.
 pub fn call_from(calls: &[usize], i: usize) -> usize
-    ensures { λ r. ⌜ r ≡ getD (column 64 0 (now (calls .entry))) i 0 ⌝ }
+    ensures { λ r. ⌜ r ≡ getD (column noteRows 0 (now (calls .entry))) i 0 ⌝ }
 {
-    word(calls, 0, 64, i)
+    word(calls, 0, NOTES, i)
 }
 
 pub fn call_to(calls: &[usize], i: usize) -> usize
-    ensures { λ r. ⌜ r ≡ getD (column 64 1 (now (calls .entry))) i 0 ⌝ }
+    ensures { λ r. ⌜ r ≡ getD (column noteRows 1 (now (calls .entry))) i 0 ⌝ }
 {
-    word(calls, 64, 64, i)
+    word(calls, CALL_TO, NOTES, i)
 }
 
 // ---- labels of open footnotes
@@ -102,14 +148,14 @@ pub fn open_label(k: Kept, from: usize, to: usize, labels: &mut [usize]) -> Kept
     ensures { λ r. ⌜ OpensLabel k from to (now (labels .entry)) r (now (labels .exit)) ⌝ }
 {
     let i = k.labels;
-    if labels.len() != 128 {
+    if labels.len() != LABEL_WORDS {
         return k;
     }
-    if 64 <= i {
+    if NOTES <= i {
         return k;
     }
     labels[i] = from;
-    labels[64 + i] = to;
+    labels[LABEL_TO + i] = to;
     let mut r = k;
     r.labels = i + 1;
     r
@@ -156,7 +202,16 @@ fn find_label(
 pub fn call_index(k: Kept, text: &[u8], from: usize, to: usize, calls: &[usize]) -> usize
     ensures { λ r. ⌜ FindsCall k (now (text .entry)) from to (now (calls .entry)) r ⌝ }
 {
-    let found = find_label(text, from, to, calls, 64, 192, 256, k.calls);
+    let found = find_label(
+        text,
+        from,
+        to,
+        calls,
+        NOTES,
+        CALL_FIRST,
+        CALL_SECOND,
+        k.calls,
+    );
     match found {
         Found::At(i) => i,
         Found::Nothing => k.calls,
@@ -167,32 +222,50 @@ pub fn call_index(k: Kept, text: &[u8], from: usize, to: usize, calls: &[usize])
 pub fn find_definition(k: Kept, text: &[u8], from: usize, to: usize, definitions: &[usize]) -> Found
     ensures { λ r. ⌜ FindsDefinition k (now (text .entry)) from to (now (definitions .entry)) r ⌝ }
 {
-    find_label(text, from, to, definitions, 128, 640, 768, k.definitions)
+    find_label(
+        text,
+        from,
+        to,
+        definitions,
+        DEFINITIONS,
+        DEFINITION_FIRST,
+        DEFINITION_SECOND,
+        k.definitions,
+    )
 }
 
 // Which footnote has a label: of equal ones the first to end.
 pub fn find_footnote(k: Kept, text: &[u8], from: usize, to: usize, footnotes: &[usize]) -> Found
     ensures { λ r. ⌜ FindsFootnote k (now (text .entry)) from to (now (footnotes .entry)) r ⌝ }
 {
-    find_label(text, from, to, footnotes, 64, 256, 320, k.footnotes)
+    find_label(
+        text,
+        from,
+        to,
+        footnotes,
+        NOTES,
+        FOOTNOTE_FIRST,
+        FOOTNOTE_SECOND,
+        k.footnotes,
+    )
 }
 
 // ---- calls
 
 fn put_call(calls: &mut [usize], i: usize, from: usize, to: usize, s: Signature)
-    ensures { λ _. ⌜ SetsRow 64 i (from ∷ to ∷ 1 ∷ s .first ∷ s .second ∷ []) (now (calls .entry)) (now (calls .exit)) ⌝ }
+    ensures { λ _. ⌜ SetsRow noteRows i (from ∷ to ∷ 1 ∷ s .first ∷ s .second ∷ []) (now (calls .entry)) (now (calls .exit)) ⌝ }
 {
-    if calls.len() != 320 {
+    if calls.len() != CALL_WORDS {
         return;
     }
-    if 64 <= i {
+    if NOTES <= i {
         return;
     }
     calls[i] = from;
-    calls[64 + i] = to;
-    calls[128 + i] = 1;
-    calls[192 + i] = s.first;
-    calls[256 + i] = s.second;
+    calls[CALL_TO + i] = to;
+    calls[CALL_TIMES + i] = 1;
+    calls[CALL_FIRST + i] = s.first;
+    calls[CALL_SECOND + i] = s.second;
 }
 
 // A call at an index is counted; a new one stands behind the last.
@@ -206,18 +279,18 @@ pub fn count_call(
 ) -> Kept
     ensures { λ r. ⌜ CountsCall k index (now (text .entry)) from to (now (calls .entry)) r (now (calls .exit)) ⌝ }
 {
-    if calls.len() != 320 {
+    if calls.len() != CALL_WORDS {
         return k;
     }
-    if 64 <= index {
+    if NOTES <= index {
         return k;
     }
     if index < k.calls {
-        let times = calls[128 + index];
+        let times = calls[CALL_TIMES + index];
         if 0x1_0000_0000 <= times {
             return k;
         }
-        calls[128 + index] = times + 1;
+        calls[CALL_TIMES + index] = times + 1;
         return k;
     }
     let label = signature::part(text, from, to);
@@ -231,7 +304,7 @@ pub fn count_call(
 pub fn times_at(calls: &[usize], index: usize) -> usize
     ensures { λ r. ⌜ TellsTimes (now (calls .entry)) index r ⌝ }
 {
-    word(calls, 128, 64, index)
+    word(calls, CALL_TIMES, NOTES, index)
 }
 
 // ---- what is kept in bytes
@@ -245,20 +318,20 @@ fn put_footnote(
     n: usize,
     s: Signature,
 )
-    ensures { λ _. ⌜ SetsRow 64 i (from ∷ to ∷ place ∷ n ∷ s .first ∷ s .second ∷ []) (now (footnotes .entry)) (now (footnotes .exit)) ⌝ }
+    ensures { λ _. ⌜ SetsRow noteRows i (from ∷ to ∷ place ∷ n ∷ s .first ∷ s .second ∷ []) (now (footnotes .entry)) (now (footnotes .exit)) ⌝ }
 {
-    if footnotes.len() != 384 {
+    if footnotes.len() != FOOTNOTE_WORDS {
         return;
     }
-    if 64 <= i {
+    if NOTES <= i {
         return;
     }
     footnotes[i] = from;
-    footnotes[64 + i] = to;
-    footnotes[128 + i] = place;
-    footnotes[192 + i] = n;
-    footnotes[256 + i] = s.first;
-    footnotes[320 + i] = s.second;
+    footnotes[FOOTNOTE_TO + i] = to;
+    footnotes[FOOTNOTE_PLACE + i] = place;
+    footnotes[FOOTNOTE_LENGTH + i] = n;
+    footnotes[FOOTNOTE_FIRST + i] = s.first;
+    footnotes[FOOTNOTE_SECOND + i] = s.second;
 }
 
 // The newest open footnote ends: n bytes of the work bytes are its body.
@@ -279,16 +352,16 @@ pub fn keep_footnote(
     }
     let open = k.labels - 1;
     r.labels = open;
-    if 16384 < k.end {
+    if regions::SIZE < k.end {
         return r;
     }
     let i = k.footnotes;
-    if 64 <= i {
+    if NOTES <= i {
         return r;
     }
-    r.end = regions::carry(work, from, n, 32768, k.end);
-    let label_from = word(labels, 0, 64, open);
-    let label_to = word(labels, 64, 64, open);
+    r.end = regions::carry(work, from, n, regions::KEPT_AT, k.end);
+    let label_from = word(labels, 0, NOTES, open);
+    let label_to = word(labels, LABEL_TO, NOTES, open);
     let label = signature::part(text, label_from, label_to);
     let s = signature::sign(label);
     put_footnote(footnotes, i, label_from, label_to, k.end, n, s);
@@ -306,21 +379,21 @@ fn put_definition(
     title: usize,
     s: Signature,
 )
-    ensures { λ _. ⌜ SetsRow 128 i (from ∷ to ∷ place ∷ n ∷ title ∷ s .first ∷ s .second ∷ []) (now (definitions .entry)) (now (definitions .exit)) ⌝ }
+    ensures { λ _. ⌜ SetsRow definitionRows i (from ∷ to ∷ place ∷ n ∷ title ∷ s .first ∷ s .second ∷ []) (now (definitions .entry)) (now (definitions .exit)) ⌝ }
 {
-    if definitions.len() != 896 {
+    if definitions.len() != DEFINITION_WORDS {
         return;
     }
-    if 128 <= i {
+    if DEFINITIONS <= i {
         return;
     }
     definitions[i] = from;
-    definitions[128 + i] = to;
-    definitions[256 + i] = place;
-    definitions[384 + i] = n;
-    definitions[512 + i] = title;
-    definitions[640 + i] = s.first;
-    definitions[768 + i] = s.second;
+    definitions[DEFINITION_TO + i] = to;
+    definitions[DEFINITION_PLACE + i] = place;
+    definitions[DEFINITION_LENGTH + i] = n;
+    definitions[DEFINITION_TITLE + i] = title;
+    definitions[DEFINITION_FIRST + i] = s.first;
+    definitions[DEFINITION_SECOND + i] = s.second;
 }
 
 // A title goes behind the kept bytes, where there is one.
@@ -330,7 +403,7 @@ fn carry_title(work: &mut [u8], place: usize, title: usize, at: usize) -> usize
     if title == 0 {
         return at;
     }
-    regions::carry(work, place, title - 1, 32768, at)
+    regions::carry(work, place, title - 1, regions::KEPT_AT, at)
 }
 
 // Keeps a definition: its label's place in the text, and the places of n bytes of destination and of the title in the work bytes.
@@ -348,15 +421,15 @@ pub fn keep_definition(
 ) -> Kept
     ensures { λ r. ⌜ KeepsDefinition k (now (text .entry)) from to place n «title_place» title (now (work .entry)) (now (definitions .entry)) r (now (work .exit)) (now (definitions .exit)) ⌝ }
 {
-    if 16384 < k.end {
+    if regions::SIZE < k.end {
         return k;
     }
     let i = k.definitions;
-    if 128 <= i {
+    if DEFINITIONS <= i {
         return k;
     }
     let mut r = k;
-    let middle = regions::carry(work, place, n, 32768, k.end);
+    let middle = regions::carry(work, place, n, regions::KEPT_AT, k.end);
     r.end = carry_title(work, title_place, title, middle);
     let label = signature::part(text, from, to);
     let s = signature::sign(label);

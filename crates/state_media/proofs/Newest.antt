@@ -11,7 +11,7 @@ use Rattle.machine.specs.State as State
 use Rattle.machine.specs.State.{State, noDestination, own, defined}
 use Rattle.machine.specs.Set.{setMedia}
 use Rattle.machine.specs.Media.{newMedia, anyImage}
-use Rattle.machine.specs.Totals.{size, mediaSizes, held}
+use Rattle.machine.specs.Totals.{size, mediaSizes, held, mostTotal}
 use Rattle.machine_bounded.specs.Within.{isUnset, isNowhere, isBare, newestIsBare}
 use Rattle.packed.specs.declared.Tight.{Tight}
 use Rattle.packed.specs.Tight.{Tightened, older, newestOf, anyOf, More, Fewer, Newest, Any}
@@ -114,7 +114,7 @@ module _ {l : Links} {y : Tight} where
         let z = k .end in
         let o : ms ≡ bares (imagesOf ms) = rw p at (k .others) in
         let b : mediaSizes ms ≡ 0 = (let c = bare-sizes (imagesOf ms) in rw o c) in
-        let f : held s ≤ 16384 = omega arith in
+        let f : held s ≤ mostTotal = omega arith in
         let t = k .setext f in
         let a = text-size region (size (s .waiting .setext)) (l .setext) (s .waiting .setext) t in
         rw e (record {

@@ -9,6 +9,7 @@ use lib.ListN.{length, take, drop, length-take, length-drop}
 use Rattle.lent.specs.Fill.{Filled}
 use Rattle.lent.proofs.Laws.{length-filled}
 use Rattle.regions.specs.Regions.{regionAt, Carries, Carried}
+use Rattle.regions.specs.Sizes.{regionSize, heldAt, workSize, noRoom}
 use Rattle.machine.specs.State as State
 use Rattle.machine.specs.State.{State, noDestination, own, defined}
 use Rattle.machine.specs.Set.{setMedia, setSetext}
@@ -27,24 +28,24 @@ use Rattle.state_media.specs.Private.{withLabel, withDestination, withTi
 use Rattle.state_media.specs.Links.{PieceIs, TextIs, DestinationIs, MediaIs, NewestIs, Linked, Around, Stores, Holds, Releases}
 use Rattle.state_media.proofs.Held.{appended, text-stays, media-stays}
 
-module _ {w w′ : List ℕ} {from n at r : ℕ} (c : Carries w from n 16384 at w′ r) (lw : length w ≡ 49152) (h : from + n ≤ 16384) where
-  carried : Carried w from n 16384 at w′ r
+module _ {w w′ : List ℕ} {from n at r : ℕ} (c : Carries w from n heldAt at w′ r) (lw : length w ≡ workSize) (h : from + n ≤ regionSize) where
+  carried : Carried w from n heldAt at w′ r
   carried = c .carries (omega arith) (omega arith) (omega arith) (inl h)
 
   long-bytes : length (take n (drop from w)) ≡ n
   long-bytes = simp (length-take, length-drop) (omega arith)
 
-  long-region : length (regionAt 16384 w) ≡ 16384
+  long-region : length (regionAt heldAt w) ≡ regionSize
   long-region = simp (length-take, length-drop) (omega arith)
 
-  long-after : length (regionAt 16384 w′) ≡ 16384
+  long-after : length (regionAt heldAt w′) ≡ regionSize
   long-after = length-filled (carried .filled) ∙ long-region
 
   around : Around w w′
   around = record { before = carried .before; behind = carried .behind }
 
   -- where it has room, the piece is there
-  piece-new : at + n ≤ 16384 → PieceIs (regionAt 16384 w′) r (record { place = at; length = n }) (take n (drop from w))
+  piece-new : at + n ≤ regionSize → PieceIs (regionAt heldAt w′) r (record { place = at; length = n }) (take n (drop from w))
   piece-new k =
       let f = carried .filled in
       let y = long-bytes in
@@ -52,7 +53,7 @@ module _ {w w′ : List ℕ} {from n at r : ℕ} (c : Carries w from n 16384 at 
       let q = f .place in
       record { long = sym y; inside = k; below = λ a. omega arith; bytes = rw y at (appended f (omega arith)) }
 
-  place-after : (a : ℕ) → at ≡ min a 16385 → r ≡ min (a + n) 16385
+  place-after : (a : ℕ) → at ≡ min a noRoom → r ≡ min (a + n) noRoom
   place-after a e = let q = carried .filled .place in let y = long-bytes in let z = long-region in omega arith
 
 -- ---- for the newest medium
@@ -60,15 +61,15 @@ module _ {w w′ : List ℕ} {from n at r : ℕ} (c : Carries w from n 16384 at 
 abbrev held-more : Media → ℕ → Links → Links
 held-more x r l = record { images = l .images; media = x; end = r; setext = l .setext }
 
-module _ (l : Links) {w w′ : List ℕ} {from n r : ℕ} (c : Carries w from n 16384 (l .end) w′ r) where
+module _ (l : Links) {w w′ : List ℕ} {from n r : ℕ} (c : Carries w from n heldAt (l .end) w′ r) where
   stored : (x : Media) (m′ : State.Media → State.Media)
       → (s : State) (m : State.Media) (ms : List State.Media) → s .media ≡ m ∷ ms → m′ m .image ≡ m .image → partsFrom M.label (m′ m) ≡ partsFrom M.label m + n
-      → (MediaIs (regionAt 16384 w′) r (l .media) m → PieceIs (regionAt 16384 w′) r (record { place = l .end; length = n }) (take n (drop from w)) → MediaIs (regionAt 16384 w′) r x (m′ m))
-      → length w ≡ 49152 → from + n ≤ 16384 → Linked l (regionAt 16384 w) s → Linked (held-more x r l) (regionAt 16384 w′) (setMedia (m′ m ∷ ms) s) × Around w w′
+      → (MediaIs (regionAt heldAt w′) r (l .media) m → PieceIs (regionAt heldAt w′) r (record { place = l .end; length = n }) (take n (drop from w)) → MediaIs (regionAt heldAt w′) r x (m′ m))
+      → length w ≡ workSize → from + n ≤ regionSize → Linked l (regionAt heldAt w) s → Linked (held-more x r l) (regionAt heldAt w′) (setMedia (m′ m ∷ ms) s) × Around w w′
   unfolding held
   stored x m′ s m ms p i h g lw b k =
       let f = carried c lw b .filled in
-      let z : l .end ≡ min (size (s .waiting .setext) + (partsFrom M.label m + mediaSizes ms)) 16385 = rw p at (k .end) in
+      let z : l .end ≡ min (size (s .waiting .setext) + (partsFrom M.label m + mediaSizes ms)) noRoom = rw p at (k .end) in
       let e = place-after c lw b (size (s .waiting .setext) + (partsFrom M.label m + mediaSizes ms)) z in
       let o = rw p at (k .newest) in
       let t = rw p at (k .setext) in (
@@ -83,7 +84,7 @@ module _ (l : Links) {w w′ : List ℕ} {from n r : ℕ} (c : Carries w from n 
         around c lw b,
       )
 
-module _ {l : Links} {w w′ : List ℕ} {from n r : ℕ} {x : Media} (c : Carries w from n 16384 (l .end) w′ r) where
+module _ {l : Links} {w w′ : List ℕ} {from n r : ℕ} {x : Media} (c : Carries w from n heldAt (l .end) w′ r) where
   pub stores-label : x ≡ withLabel (T.Is (record { place = l .end; length = n })) (l .media) → Stores M.label from n l w (held-more x r l) w′
   stores-label e = record {
     stores = λ s m ms p z lw b k.
@@ -117,7 +118,7 @@ newest-stays : {d s e : List ℕ} {at r end end′ : ℕ} → Filled d at s e r 
 newest-stays f h k x [] y = tt
 newest-stays f h k x (m ∷ ms) y = media-stays f h k y
 
-pub holds : {l : Links} {w w′ : List ℕ} {from n r : ℕ} → Carries w from n 16384 0 w′ r → Holds from n l w (waiting (T.Is (record { place = 0; length = n })) r l) w′
+pub holds : {l : Links} {w w′ : List ℕ} {from n r : ℕ} → Carries w from n heldAt 0 w′ r → Holds from n l w (waiting (T.Is (record { place = 0; length = n })) r l) w′
 unfolding held
 holds {l} {w} {w′} {from} {n} {r} c = record {
   holds = λ s z lw b k.
@@ -125,7 +126,7 @@ holds {l} {w} {w′} {from} {n} {r} c = record {
       let y = long-bytes c lw b in
       let e = place-after c lw b 0 (omega arith) in
       let i = k .end in
-      let p : PieceIs (regionAt 16384 w′) r (record { place = 0; length = n }) (take n (drop from w)) = piece-new c lw b (omega arith) in (
+      let p : PieceIs (regionAt heldAt w′) r (record { place = 0; length = n }) (take n (drop from w)) = piece-new c lw b (omega arith) in (
         record {
           long = long-after c lw b;
           images = k .images;

@@ -5,11 +5,12 @@ use mathlib.Core.List.{List, [], _∷_}
 use mathlib.Core.Option.{Option, none, some}
 use Prim.Native.Nat.{ℕ, min, _+_, _≤_, _<_}
 use lib.ListN.{length, take, drop}
+use Rattle.regions.specs.Sizes.{regionSize, heldAt, keptAt, workSize, noRoom}
 use Rattle.machine.specs.State as State
 use Rattle.machine.specs.State.{State, noDestination, own, defined}
 use Rattle.machine.specs.Set.{setMedia, setDestination, setSetext}
 use Rattle.machine.specs.Media.{newMedia, Part, withPart, Id, withId, anyImage, ownOf}
-use Rattle.machine.specs.Totals.{size, mediaSizes, held}
+use Rattle.machine.specs.Totals.{size, mediaSizes, held, mostTotal}
 use Rattle.machine_bounded.specs.Within.{newestIsBare, partsFrom}
 use Rattle.packed.specs.Tight.{Tightened}
 use Rattle.regions.specs.Regions.{regionAt}
@@ -36,7 +37,7 @@ labelOf (L.Is p) = some (spanIs p)
 -- below the end where it is not empty
 pub record PieceIs (region : List ℕ) (end : ℕ) (p : Piece) (b : List ℕ) : Type 0 where
   pub long : p .length ≡ length b
-  pub inside : p .place + p .length ≤ 16384
+  pub inside : p .place + p .length ≤ regionSize
   pub below : 0 < p .length → p .place + p .length ≤ end
   pub bytes : take (p .length) (drop (p .place) region) ≡ b
 
@@ -85,12 +86,12 @@ NewestIs region end x (m ∷ ms) = MediaIs region end x m
 
 -- Where the held bytes have no room, the end says so, and no more is known.
 pub record Linked (l : Links) (region : List ℕ) (s : State) : Type 0 where
-  pub long : length region ≡ 16384
+  pub long : length region ≡ regionSize
   pub images : Tightened (l .images) (imagesOf (s .media))
   pub others : OthersBare (s .media)
-  pub end : l .end ≡ min (held s) 16385
-  pub newest : held s ≤ 16384 → NewestIs region (l .end) (l .media) (s .media)
-  pub setext : held s ≤ 16384 → TextIs region (size (s .waiting .setext)) (l .setext) (s .waiting .setext)
+  pub end : l .end ≡ min (held s) noRoom
+  pub newest : held s ≤ mostTotal → NewestIs region (l .end) (l .media) (s .media)
+  pub setext : held s ≤ mostTotal → TextIs region (size (s .waiting .setext)) (l .setext) (s .waiting .setext)
 
 -- ---- what a function does
 
@@ -98,7 +99,7 @@ pub record Opens (image : Bool) (l r : Links) : Type 0 where
   pub opens : (region : List ℕ) (s : State) → length (s .media) < 64 → newestIsBare (s .media) ≡ true → Linked l region s → Linked r region (setMedia (newMedia image ∷ s .media) s)
 
 pub record Closes (l r : Links) : Type 0 where
-  pub closes : (region : List ℕ) (s : State) (m : State.Media) (ms : List State.Media) → s .media ≡ m ∷ ms → l .end ≤ 16384 → Linked l region s → Linked r region (setMedia ms s)
+  pub closes : (region : List ℕ) (s : State) (m : State.Media) (ms : List State.Media) → s .media ≡ m ∷ ms → l .end ≤ regionSize → Linked l region s → Linked r region (setMedia ms s)
 
 pub record IsImage (l : Links) (r : Bool) : Type 0 where
   pub is : (region : List ℕ) (s : State) (m : State.Media) (ms : List State.Media) → s .media ≡ m ∷ ms → Linked l region s → r ≡ m .image
@@ -121,19 +122,19 @@ pub record Leads (k : ℕ) (l r : Links) : Type 0 where
 
 -- the work bytes outside the held ones are as they were
 pub record Around (w w′ : List ℕ) : Type 0 where
-  pub before : take 16384 w′ ≡ take 16384 w
-  pub behind : drop 32768 w′ ≡ drop 32768 w
+  pub before : take regionSize w′ ≡ take regionSize w
+  pub behind : drop keptAt w′ ≡ drop keptAt w
 
 pub record Stores (part : Part) (from n : ℕ) (l : Links) (w : List ℕ) (r : Links) (w′ : List ℕ) : Type 0 where
-  pub stores : (s : State) (m : State.Media) (ms : List State.Media) → s .media ≡ m ∷ ms → partsFrom part m ≡ 0 → length w ≡ 49152 → from + n ≤ 16384 → Linked l (regionAt 16384 w) s
-      → Linked r (regionAt 16384 w′) (setMedia (withPart part (take n (drop from w)) m ∷ ms) s) × Around w w′
+  pub stores : (s : State) (m : State.Media) (ms : List State.Media) → s .media ≡ m ∷ ms → partsFrom part m ≡ 0 → length w ≡ workSize → from + n ≤ regionSize → Linked l (regionAt heldAt w) s
+      → Linked r (regionAt heldAt w′) (setMedia (withPart part (take n (drop from w)) m ∷ ms) s) × Around w w′
 
 pub record Holds (from n : ℕ) (l : Links) (w : List ℕ) (r : Links) (w′ : List ℕ) : Type 0 where
-  pub holds : (s : State) → held s ≡ 0 → length w ≡ 49152 → from + n ≤ 16384 → Linked l (regionAt 16384 w) s
-      → Linked r (regionAt 16384 w′) (setSetext (some (take n (drop from w))) s) × Around w w′
+  pub holds : (s : State) → held s ≡ 0 → length w ≡ workSize → from + n ≤ regionSize → Linked l (regionAt heldAt w) s
+      → Linked r (regionAt heldAt w′) (setSetext (some (take n (drop from w))) s) × Around w w′
 
 pub record Releases (l r : Links) : Type 0 where
-  pub releases : (region : List ℕ) (s : State) → mediaSizes (s .media) ≡ 0 → l .end ≤ 16384 → Linked l region s → Linked r region (setSetext none s)
+  pub releases : (region : List ℕ) (s : State) → mediaSizes (s .media) ≡ 0 → l .end ≤ regionSize → Linked l region s → Linked r region (setSetext none s)
 
 -- ---- before the first event
 

@@ -258,7 +258,7 @@ pub fn store_label(l: Links, work: &mut [u8], from: usize, n: usize) -> Links
         place: l.end,
         length: n,
     };
-    r.end = regions::carry(work, from, n, 16384, l.end);
+    r.end = regions::carry(work, from, n, regions::HELD_AT, l.end);
     r.media = with_label(l.media, Text::Is(p));
     r
 }
@@ -271,7 +271,7 @@ pub fn store_destination(l: Links, work: &mut [u8], from: usize, n: usize) -> Li
         place: l.end,
         length: n,
     };
-    r.end = regions::carry(work, from, n, 16384, l.end);
+    r.end = regions::carry(work, from, n, regions::HELD_AT, l.end);
     r.media = with_destination(l.media, Destination::Own(p));
     r
 }
@@ -284,7 +284,7 @@ pub fn store_title(l: Links, work: &mut [u8], from: usize, n: usize) -> Links
         place: l.end,
         length: n,
     };
-    r.end = regions::carry(work, from, n, 16384, l.end);
+    r.end = regions::carry(work, from, n, regions::HELD_AT, l.end);
     r.media = with_title(l.media, Text::Is(p));
     r
 }
@@ -297,7 +297,7 @@ pub fn hold(l: Links, work: &mut [u8], from: usize, n: usize) -> Links
         place: 0,
         length: n,
     };
-    let end = regions::carry(work, from, n, 16384, 0);
+    let end = regions::carry(work, from, n, regions::HELD_AT, 0);
     let images = l.images;
     let media = l.media;
     Links {

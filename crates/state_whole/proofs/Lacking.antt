@@ -7,9 +7,10 @@ use native.Mathlib.Omega.{arith}
 use borrow.Author.Tests.{lt-ltb, le-ltb}
 use lib.Dec.{ltb}
 use lib.ListN.{length, length-append}
+use Rattle.regions.specs.Sizes.{regionSize, noRoom}
 use Rattle.state_buffers.specs.Stand.{flat}
 use Rattle.machine.specs.State.{State}
-use Rattle.machine.specs.Totals.{sizes, captured, held, kept, over}
+use Rattle.machine.specs.Totals.{sizes, captured, held, kept, over, mostTotal}
 use Rattle.state_whole.specs.declared.Whole.{Whole}
 use Rattle.state_whole.specs.Whole.{World, Built}
 use Rattle.state_whole.proofs.Parts.{front-long}
@@ -21,9 +22,9 @@ flat-long (c ∷ cs) = let a = length-append (flat cs) c in let b = flat-long cs
 
 -- where each stands
 pub record Places (b : Whole) (room : ℕ) (s : State) : Type 0 where
-  pub captures : b .context .buffers .end ≡ min (captured s) 16385
-  pub held-is : b .links .end ≡ min (held s) 16385
-  pub kept-is : b .kept .end ≡ min (kept s) 16385
+  pub captures : b .context .buffers .end ≡ min (captured s) noRoom
+  pub held-is : b .links .end ≡ min (held s) noRoom
+  pub kept-is : b .kept .end ≡ min (kept s) noRoom
   pub page : b .context .buffers .page ≡ min (length (s .page)) (room + 1)
 
 pub placed : (text : List ℕ) (b : Whole) (w : World) (s : State) (room : ℕ) → length (w .out) ≡ room → Built text b w s → Places b room s
@@ -39,25 +40,25 @@ module _ {b : Whole} {room : ℕ} where
   lacking : (r : ℕ) → ((r ≡ 0 → ⊥) → (r ≡ 8 → ⊥) → r ≡ 9) → ((s : State) → Places b room s → r ≡ numberOr (over room s)) → Lacks b room r
   lacking r n k = record { lacks = λ text w s h y. k s (placed text b w s room h y); kinds = n }
 
-  pub captures-lack : 16384 < b .context .buffers .end → Lacks b room 8
+  pub captures-lack : regionSize < b .context .buffers .end → Lacks b room 8
   unfolding over
-  captures-lack h = lacking 8 (λ y z. absurd (z refl)) (λ s p. (let e = p .captures in rw (lt-ltb 16384 (captured s) (omega arith))))
+  captures-lack h = lacking 8 (λ y z. absurd (z refl)) (λ s p. (let e = p .captures in rw (lt-ltb mostTotal (captured s) (omega arith))))
 
-  pub held-lacks : b .context .buffers .end ≤ 16384 → 16384 < b .links .end → Lacks b room 8
+  pub held-lacks : b .context .buffers .end ≤ regionSize → regionSize < b .links .end → Lacks b room 8
   unfolding over
-  held-lacks g h = lacking 8 (λ y z. absurd (z refl)) (λ s p. (let d = p .captures in let e = p .held-is in rw (le-ltb 16384 (captured s) (omega arith), lt-ltb 16384 (held s) (omega arith))))
+  held-lacks g h = lacking 8 (λ y z. absurd (z refl)) (λ s p. (let d = p .captures in let e = p .held-is in rw (le-ltb mostTotal (captured s) (omega arith), lt-ltb mostTotal (held s) (omega arith))))
 
-  pub kept-lacks : b .context .buffers .end ≤ 16384 → b .links .end ≤ 16384 → 16384 < b .kept .end → Lacks b room 8
+  pub kept-lacks : b .context .buffers .end ≤ regionSize → b .links .end ≤ regionSize → regionSize < b .kept .end → Lacks b room 8
   unfolding over
-  kept-lacks f g h = lacking 8 (λ y z. absurd (z refl)) (λ s p. (let c = p .captures in let d = p .held-is in let e = p .kept-is in rw (le-ltb 16384 (captured s) (omega arith), le-ltb 16384 (held s) (omega arith), lt-ltb 16384 (kept s) (omega arith))))
+  kept-lacks f g h = lacking 8 (λ y z. absurd (z refl)) (λ s p. (let c = p .captures in let d = p .held-is in let e = p .kept-is in rw (le-ltb mostTotal (captured s) (omega arith), le-ltb mostTotal (held s) (omega arith), lt-ltb mostTotal (kept s) (omega arith))))
 
-  module _ (f : b .context .buffers .end ≤ 16384) (g : b .links .end ≤ 16384) (h : b .kept .end ≤ 16384) where
+  module _ (f : b .context .buffers .end ≤ regionSize) (g : b .links .end ≤ regionSize) (h : b .kept .end ≤ regionSize) where
     pub page-lacks : room < b .context .buffers .page → Lacks b room 9
     unfolding over
     page-lacks k = lacking 9 (λ y z. refl) (λ s p. (let c = p .captures in let d = p .held-is in let e = p .kept-is in let q = p .page in
-        rw (le-ltb 16384 (captured s) (omega arith), le-ltb 16384 (held s) (omega arith), le-ltb 16384 (kept s) (omega arith), lt-ltb room (length (s .page)) (omega arith))))
+        rw (le-ltb mostTotal (captured s) (omega arith), le-ltb mostTotal (held s) (omega arith), le-ltb mostTotal (kept s) (omega arith), lt-ltb room (length (s .page)) (omega arith))))
 
     pub none-lacks : b .context .buffers .page ≤ room → Lacks b room 0
     unfolding over
     none-lacks k = lacking 0 (λ y z. absurd (y refl)) (λ s p. (let c = p .captures in let d = p .held-is in let e = p .kept-is in let q = p .page in
-        rw (le-ltb 16384 (captured s) (omega arith), le-ltb 16384 (held s) (omega arith), le-ltb 16384 (kept s) (omega arith), le-ltb room (length (s .page)) (omega arith))))
+        rw (le-ltb mostTotal (captured s) (omega arith), le-ltb mostTotal (held s) (omega arith), le-ltb mostTotal (kept s) (omega arith), le-ltb room (length (s .page)) (omega arith))))

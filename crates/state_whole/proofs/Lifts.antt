@@ -5,6 +5,7 @@ use mathlib.Core.List.{List, _++_}
 use Prim.Native.Nat.{ℕ, _+_, _≤_}
 use native.Mathlib.Omega.{arith}
 use lib.ListN.{length, take, drop}
+use Rattle.regions.specs.Sizes.{regionSize}
 use Rattle.machine.specs.State.{State}
 use Rattle.machine.specs.Outcome.{Outcome, stop, go, _>>=_}
 use Rattle.machine.specs.Turn.{Turn}
@@ -24,12 +25,12 @@ use Rattle.state_whole.proofs.Parts.{linked-same, keeps-same, front-lon
 -- ---- the context alone changes, and the captures, the page and the starts with it
 
 -- the bytes behind the captures stay
-pub kept-on : {text : List ℕ} (d : Command) {b : Whole} {w : World} {x : Context} → isQuiet d ≡ true → {captures out starts : List ℕ} → length captures ≡ 16384 → length starts ≡ 64 → (t : Turn) (s u : State) → Built text b w s → within d t s ≡ go u → Rel x captures out starts u
+pub kept-on : {text : List ℕ} (d : Command) {b : Whole} {w : World} {x : Context} → isQuiet d ≡ true → {captures out starts : List ℕ} → length captures ≡ regionSize → length starts ≡ 64 → (t : Turn) (s u : State) → Built text b w s → within d t s ≡ go u → Rel x captures out starts u
     → Built text (withContext x b) (withStarts starts (withBytes captures out w)) u
 kept-on d {w = w} q {captures} {out} {starts} l n t s u y p r =
     let e = rests d q t s .leaves u p in
     let f1 = behind-is captures (w .work) l 0 in
-    let f2 = behind-is captures (w .work) l 16384 in
+    let f2 = behind-is captures (w .work) l regionSize in
     record {
       long = as-long captures (w .work) l (y .long);
       places = n;
@@ -39,22 +40,22 @@ kept-on d {w = w} q {captures} {out} {starts} l n t s u y p r =
     }
 
 module _ {text : List ℕ} {View : Turn → Type 0} {d : Command} {b : Whole} {w : World} {x : Context} (q : isQuiet d ≡ true) where
-  pub lifts : {captures out captures′ out′ : List ℕ} → Keeps View d (b .context) captures out x captures′ out′ → take 16384 (w .work) ≡ captures → w .out ≡ out → length captures′ ≡ length captures
+  pub lifts : {captures out captures′ out′ : List ℕ} → Keeps View d (b .context) captures out x captures′ out′ → take regionSize (w .work) ≡ captures → w .out ≡ out → length captures′ ≡ length captures
       → Handles text Always View d b w (withContext x b) (withBytes captures′ out′ w)
   lifts k i j l = record {
     handles = λ t s u v a y p. kept-on d q (l ∙ ap length (sym i) ∙ front-long (w .work) (y .long)) (y .places) t s u y p (k .keeps t (w .starts) s u v (rw (← i, ← j) (y .context)) p);
   }
 
-  pub lifts-takes : {captures starts out captures′ out′ : List ℕ} → Takes View d (b .context) captures starts out x captures′ out′ → take 16384 (w .work) ≡ captures → w .starts ≡ starts → w .out ≡ out → length captures′ ≡ length captures
+  pub lifts-takes : {captures starts out captures′ out′ : List ℕ} → Takes View d (b .context) captures starts out x captures′ out′ → take regionSize (w .work) ≡ captures → w .starts ≡ starts → w .out ≡ out → length captures′ ≡ length captures
       → Handles text Roomy View d b w (withContext x b) (withBytes captures′ out′ w)
   lifts-takes {captures} {captures′ = captures′} {out′ = out′} k i h j l = record {
     handles = λ t s u v a y p.
         let m = a .captures in
-        let z : length captures ≡ 16384 = ap length (sym i) ∙ front-long (w .work) (y .long) in
+        let z : length captures ≡ regionSize = ap length (sym i) ∙ front-long (w .work) (y .long) in
         kept-on d q {captures = captures′} {out = out′} {starts = w .starts} (l ∙ z) (y .places) t s u y p (rw h (k .takes t s u v (omega arith) (rw (← i, ← h, ← j) (y .context)) p));
   }
 
-  pub lifts-opens : {captures starts out captures′ starts′ out′ : List ℕ} → Opens View d (b .context) captures starts out x captures′ starts′ out′ → take 16384 (w .work) ≡ captures → w .starts ≡ starts → w .out ≡ out
+  pub lifts-opens : {captures starts out captures′ starts′ out′ : List ℕ} → Opens View d (b .context) captures starts out x captures′ starts′ out′ → take regionSize (w .work) ≡ captures → w .starts ≡ starts → w .out ≡ out
       → length captures′ ≡ length captures → length starts′ ≡ length starts
       → Handles text Always View d b w (withContext x b) (withStarts starts′ (withBytes captures′ out′ w))
   lifts-opens k i h j l n = record {

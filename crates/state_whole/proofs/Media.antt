@@ -9,6 +9,7 @@ use borrow.Author.Tests.{eqb-true}
 use lib.Dec.{eqb}
 use lib.ListN.{length, take, drop}
 use lib.Seq.{take-take}
+use Rattle.regions.specs.Sizes.{regionSize, heldAt, keptAt}
 use Rattle.machine.specs.State as State
 use Rattle.machine.specs.State.{State, own}
 use Rattle.machine.specs.Outcome.{Outcome, stop, go, _>>=_}
@@ -55,7 +56,7 @@ alike-media x s = record { page = refl; captures = refl; flags = refl; rank = re
 
 module _ {text : List ℕ} {b : Whole} {w : World} {l : Links} where
   -- the open media alone change
-  relinked : (x : List State.Media) (s : State) → Built text b w s → Linked l (regionAt 16384 (w .work)) (setMedia x s) → Built text (withLinks l b) w (setMedia x s)
+  relinked : (x : List State.Media) (s : State) → Built text b w s → Linked l (regionAt heldAt (w .work)) (setMedia x s) → Built text (withLinks l b) w (setMedia x s)
   relinked x s y k = record { long = y .long; places = y .places; context = rel-alike (alike-media x s) (y .context); links = k; kept = keeps-same refl refl (y .kept) }
 
 module _ {View : Turn → Type 0} {b : Whole} {l : Links} where
@@ -67,7 +68,7 @@ module _ {View : Turn → Type 0} {b : Whole} {l : Links} where
           let d = done (newestIsBare (s .media)) (go (setMedia (newMedia image ∷ s .media) s)) u p in
           let q : setMedia (newMedia image ∷ s .media) s ≡ u = cc-go (d .went) in
           let n : suc (length (s .media)) ≤ 64 = fits (setMedia (newMedia image ∷ s .media) s) (rw (← q) at (d .fits)) .media in
-          rw (← q) (relinked (newMedia image ∷ s .media) s y (k .opens (regionAt 16384 (w .work)) s (omega arith) (d .turn) (y .links)));
+          rw (← q) (relinked (newMedia image ∷ s .media) s y (k .opens (regionAt heldAt (w .work)) s (omega arith) (d .turn) (y .links)));
     };
   }
 
@@ -78,7 +79,7 @@ module _ {View : Turn → Type 0} {b : Whole} {l : Links} where
       handles = λ t s u v a y p.
           let f = newest-there s u (λ (m, ms). go (setMedia ms s)) (done true (newestMedia s >>= λ (m, ms). go (setMedia ms s)) u p .went) in
           let q : setMedia (f .1) s ≡ u = cc-go (f .3) in
-          rw (← q) (relinked (f .1) s y (k .closes (regionAt 16384 (w .work)) s (f .0) (f .1) (f .2) a (y .links)));
+          rw (← q) (relinked (f .1) s y (k .closes (regionAt heldAt (w .work)) s (f .0) (f .1) (f .2) a (y .links)));
     };
   }
 
@@ -91,7 +92,7 @@ module _ {View : Turn → Type 0} {b : Whole} {l : Links} where
           let f = newest-there s u (λ (m, ms). go (setMedia (setDestination (own []) m ∷ ms) s)) (d .went) in
           let q : setMedia (setDestination (own []) (f .0) ∷ f .1) s ≡ u = cc-go (f .3) in
           let z : size (ownOf (f .0 .destination)) ≡ 0 = (let g = eqb-true (ofNewest (λ m. size (ownOf (m .destination))) (s .media)) 0 (d .turn) in rw (f .2) at g) in
-          rw (← q) (relinked (setDestination (own []) (f .0) ∷ f .1) s y (k .empties (regionAt 16384 (w .work)) s (f .0) (f .1) (f .2) z (y .links)));
+          rw (← q) (relinked (setDestination (own []) (f .0) ∷ f .1) s y (k .empties (regionAt heldAt (w .work)) s (f .0) (f .1) (f .2) z (y .links)));
     };
   }
 
@@ -104,7 +105,7 @@ identifies {id} {e = e} k = record {
         let f = newest-there s u (λ (m, ms). go (setMedia (withId id (spanOf (t .event)) m ∷ ms) s)) (done true (onNewest (withId id (spanOf (t .event))) s) u p .went) in
         let q : setMedia (withId id (spanOf (t .event)) (f .0) ∷ f .1) s ≡ u = cc-go (f .3) in
         let q′ : setMedia (withId id (spanOf e) (f .0) ∷ f .1) s ≡ u = ap (λ (x : Event). setMedia (withId id (spanOf x) (f .0) ∷ f .1) s) (sym (v .event-is)) ∙ q in
-        rw (← q′) (relinked (withId id (spanOf e) (f .0) ∷ f .1) s y (k .identifies (regionAt 16384 (w .work)) s (f .0) (f .1) (f .2) (y .links)));
+        rw (← q′) (relinked (withId id (spanOf e) (f .0) ∷ f .1) s y (k .identifies (regionAt heldAt (w .work)) s (f .0) (f .1) (f .2) (y .links)));
   };
 }
 
@@ -124,17 +125,17 @@ pub record Captured (b : Whole) (w : World) (c : List ℕ) : Type 0 where
   pub bytes : take (b .context .buffers .end - b .context .buffers .start) (drop (b .context .buffers .start) (w .work)) ≡ c
   pub ordered : b .context .buffers .start ≤ b .context .buffers .end
 
-pub captured : (text : List ℕ) (b : Whole) (w : World) (s : State) (c : List ℕ) (cs : List (List ℕ)) → s .captures ≡ c ∷ cs → b .context .buffers .end ≤ 16384 → Built text b w s → Captured b w c
+pub captured : (text : List ℕ) (b : Whole) (w : World) (s : State) (c : List ℕ) (cs : List (List ℕ)) → s .captures ≡ c ∷ cs → b .context .buffers .end ≤ regionSize → Built text b w s → Captured b w c
 captured text b w s c cs q l y =
     let x = y .context .stand in
     let n = front-long (w .work) (y .long) in
-    let k : b .context .buffers .end ≤ length (take 16384 (w .work)) = omega arith in
-    let o = Written.ordered (b .context .buffers) (take 16384 (w .work)) (w .starts) (w .out) c cs s q k x in
-    let e = Written.newest (b .context .buffers) (take 16384 (w .work)) (w .starts) (w .out) c cs s q k x in
+    let k : b .context .buffers .end ≤ length (take regionSize (w .work)) = omega arith in
+    let o = Written.ordered (b .context .buffers) (take regionSize (w .work)) (w .starts) (w .out) c cs s q k x in
+    let e = Written.newest (b .context .buffers) (take regionSize (w .work)) (w .starts) (w .out) c cs s q k x in
     let from = b .context .buffers .start in
     let to = b .context .buffers .end in
     let z : to - from + 0 ≡ to - from = omega arith in
-    record { bytes = sym (ap (take (to - from)) (drop-take from 16384 (w .work)) ∙ take-take (to - from) (16384 - from) (drop from (w .work)) (omega arith)) ∙ e; ordered = o }
+    record { bytes = sym (ap (take (to - from)) (drop-take from regionSize (w .work)) ∙ take-take (to - from) (regionSize - from) (drop from (w .work)) (omega arith)) ∙ e; ordered = o }
 
 -- taken off, the context has one capture less
 pub uncaptured : {c : Context} {captures out starts : List ℕ} {x : Buffers} (s : State) (d : List ℕ) (ds : List (List ℕ)) → Stand.Drops (c .buffers) starts x → s .captures ≡ d ∷ ds → c .buffers .end ≤ length captures → Rel c captures out starts s
@@ -165,7 +166,7 @@ stores {b = b} {work = work} {starts = starts} {work′ = work′} {part = part}
           places = y .places;
           context = rel-alike (alike-media (withPart part (f .0) (h .0) ∷ h .1) (setCaptures (f .1) s)) (rw (st .1 .before) r);
           links = linked-same refl refl (rw (c .bytes) at (st .0));
-          kept = (let e : Keeps (b .kept) text (regionAt 32768 work′) (w .tables) s = rw (st .1 .behind) (y .kept) in keeps-same refl refl e);
+          kept = (let e : Keeps (b .kept) text (regionAt keptAt work′) (w .tables) s = rw (st .1 .behind) (y .kept) in keeps-same refl refl e);
         });
   };
 }

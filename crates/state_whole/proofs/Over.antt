@@ -9,13 +9,13 @@ use lib.Dec.{ltb}
 use lib.ListN.{length}
 use Rattle.lent.specs.Bytes.{if_then_else_}
 use Rattle.machine.specs.State.{State}
-use Rattle.machine.specs.Totals.{captured, held, kept, over}
+use Rattle.machine.specs.Totals.{captured, held, kept, over, mostTotal}
 use Rattle.state_whole.specs.Lacking.{numberOr}
 
 pub record Within (room : ℕ) (s : State) : Type 0 where
-  pub captures : captured s ≤ 16384
-  pub held-is : held s ≤ 16384
-  pub kept-is : kept s ≤ 16384
+  pub captures : captured s ≤ mostTotal
+  pub held-is : held s ≤ mostTotal
+  pub kept-is : kept s ≤ mostTotal
   pub page : length (s .page) ≤ room
 
 abbrev judge : (a b c d : Bool) → Option ℕ
@@ -46,14 +46,14 @@ judged-some false false false false k p h = absurd (h p)
 module _ (room : ℕ) (s : State) where
   pub over-none : numberOr (over room s) ≡ 0 → over room s ≡ none
   unfolding over
-  over-none p = judged-none (ltb 16384 (captured s)) (ltb 16384 (held s)) (ltb 16384 (kept s)) (ltb room (length (s .page))) p
+  over-none p = judged-none (ltb mostTotal (captured s)) (ltb mostTotal (held s)) (ltb mostTotal (kept s)) (ltb room (length (s .page))) p
 
   pub over-some : (k : ℕ) → k ≡ numberOr (over room s) → (k ≡ 0 → ⊥) → over room s ≡ some k
   unfolding over
-  over-some k p h = judged-some (ltb 16384 (captured s)) (ltb 16384 (held s)) (ltb 16384 (kept s)) (ltb room (length (s .page))) k p h
+  over-some k p h = judged-some (ltb mostTotal (captured s)) (ltb mostTotal (held s)) (ltb mostTotal (kept s)) (ltb room (length (s .page))) k p h
 
   pub none-over : over room s ≡ none → Within room s
   unfolding over
   none-over p =
-      let q = none-judged (ltb 16384 (captured s)) (ltb 16384 (held s)) (ltb 16384 (kept s)) (ltb room (length (s .page))) p in
-      record { captures = ltb-false 16384 (captured s) (q .0); held-is = ltb-false 16384 (held s) (q .1); kept-is = ltb-false 16384 (kept s) (q .2); page = ltb-false room (length (s .page)) (q .3) }
+      let q = none-judged (ltb mostTotal (captured s)) (ltb mostTotal (held s)) (ltb mostTotal (kept s)) (ltb room (length (s .page))) p in
+      record { captures = ltb-false mostTotal (captured s) (q .0); held-is = ltb-false mostTotal (held s) (q .1); kept-is = ltb-false mostTotal (kept s) (q .2); page = ltb-false room (length (s .page)) (q .3) }

@@ -5,6 +5,7 @@ use Prim.Native.Nat.{ℕ, _+_, _≤_}
 use native.Mathlib.Omega.{arith}
 use lib.ListN.{length, take, drop, length-append, length-drop, length-take}
 use lib.Seq.{take-at, drop-at, drop-drop}
+use Rattle.regions.specs.Sizes.{regionSize, workSize}
 use Rattle.machine.specs.State.{State}
 use Rattle.machine.specs.Totals.{size, mediaSizes, held, definitionSizes, footnoteSizes, kept}
 use Rattle.regions.specs.Regions.{regionAt}
@@ -82,15 +83,15 @@ keeps-same {s = s} {u = u} p q x =
 
 -- ---- the regions behind the captures
 
-pub front-long : (work : List ℕ) → length work ≡ 49152 → length (take 16384 work) ≡ 16384
-front-long work h = let a = length-take 16384 work in omega arith
+pub front-long : (work : List ℕ) → length work ≡ workSize → length (take regionSize work) ≡ regionSize
+front-long work h = let a = length-take regionSize work in omega arith
 
-module _ (captures work : List ℕ) (h : length captures ≡ 16384) where
-  pub front-is : take 16384 (captures ++ drop 16384 work) ≡ captures
-  front-is = take-at captures (drop 16384 work) 16384 h
+module _ (captures work : List ℕ) (h : length captures ≡ regionSize) where
+  pub front-is : take regionSize (captures ++ drop regionSize work) ≡ captures
+  front-is = take-at captures (drop regionSize work) regionSize h
 
-  pub behind-is : (k : ℕ) → drop (16384 + k) (captures ++ drop 16384 work) ≡ drop (16384 + k) work
-  behind-is k = sym (drop-drop k 16384 (captures ++ drop 16384 work)) ∙ ap (drop k) (drop-at captures (drop 16384 work) 16384 h) ∙ drop-drop k 16384 work
+  pub behind-is : (k : ℕ) → drop (regionSize + k) (captures ++ drop regionSize work) ≡ drop (regionSize + k) work
+  behind-is k = sym (drop-drop k regionSize (captures ++ drop regionSize work)) ∙ ap (drop k) (drop-at captures (drop regionSize work) regionSize h) ∙ drop-drop k regionSize work
 
-  pub as-long : length work ≡ 49152 → length (captures ++ drop 16384 work) ≡ 49152
-  as-long l = let a = length-append captures (drop 16384 work) in let b = length-drop 16384 work in omega arith
+  pub as-long : length work ≡ workSize → length (captures ++ drop regionSize work) ≡ workSize
+  as-long l = let a = length-append captures (drop regionSize work) in let b = length-drop regionSize work in omega arith

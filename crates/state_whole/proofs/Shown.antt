@@ -9,6 +9,7 @@ use borrow.Author.Tests.{eqb-true}
 use lib.Dec.{eqb}
 use lib.ListN.{length, take, drop}
 use lib.Seq.{take-take, drop-drop}
+use Rattle.regions.specs.Sizes.{regionSize, heldAt, keptAt}
 use Rattle.machine.specs.State as State
 use Rattle.machine.specs.State.{State}
 use Rattle.machine.specs.Outcome.{Outcome, stop, go, _>>=_, need}
@@ -44,26 +45,26 @@ use Rattle.state_whole.proofs.Media.{cc-go, newest-there, capture-there
 -- ---- bytes from behind the captures, written
 
 -- a piece of a region is a part of the work bytes
-pub part-of-region : (base place n : ℕ) (work : List ℕ) → place + n ≤ 16384 → take n (drop place (regionAt base work)) ≡ take n (drop (base + place) work)
-part-of-region base place n work h = ap (take n) (drop-take place 16384 (drop base work)) ∙ take-take n (16384 - place) (drop place (drop base work)) (omega arith) ∙ ap (take n) (drop-drop place base work)
+pub part-of-region : (base place n : ℕ) (work : List ℕ) → place + n ≤ regionSize → take n (drop place (regionAt base work)) ≡ take n (drop (base + place) work)
+part-of-region base place n work h = ap (take n) (drop-take place regionSize (drop base work)) ∙ take-take n (regionSize - place) (drop place (drop base work)) (omega arith) ∙ ap (take n) (drop-drop place base work)
 
 -- the newest buffer grows, and the bytes behind the captures stay
 pub record Shows (t : List ℕ) (b : Buffers) (work out : List ℕ) (x : Buffers) (work′ out′ : List ℕ) : Type 0 where
-  pub keeps : Stand.Keeps (push t) b (take 16384 work) out x (take 16384 work′) out′
-  pub behind : drop 16384 work′ ≡ drop 16384 work
+  pub keeps : Stand.Keeps (push t) b (take regionSize work) out x (take regionSize work′) out′
+  pub behind : drop regionSize work′ ≡ drop regionSize work
   pub long : length work′ ≡ length work
 
 pub shown : {text t : List ℕ} {b : Whole} {w : World} {x : Buffers} {work′ out′ : List ℕ} (s : State) → Shows t (b .context .buffers) (w .work) (w .out) x work′ out′ → Built text b w s
     → Built text (withContext (withBuffers x (b .context)) b) (withOut out′ (withWork work′ w)) (push t s)
 shown {text} {t} {b} {w} {x} {work′} {out′} s k y =
     let e = pushed t s in
-    let f : drop 32768 work′ ≡ drop 32768 (w .work) = sym (drop-drop 16384 16384 work′) ∙ ap (drop 16384) (k .behind) ∙ drop-drop 16384 16384 (w .work) in
-    let l : Linked (b .links) (regionAt 16384 work′) s = rw (k .behind) (y .links) in
-    let m : Keeps (b .kept) text (regionAt 32768 work′) (w .tables) s = rw f (y .kept) in
+    let f : drop keptAt work′ ≡ drop keptAt (w .work) = sym (drop-drop regionSize regionSize work′) ∙ ap (drop regionSize) (k .behind) ∙ drop-drop regionSize regionSize (w .work) in
+    let l : Linked (b .links) (regionAt heldAt work′) s = rw (k .behind) (y .links) in
+    let m : Keeps (b .kept) text (regionAt keptAt work′) (w .tables) s = rw f (y .kept) in
     record {
       long = k .long ∙ y .long;
       places = y .places;
-      context = pushing (b .context) (take 16384 (w .work)) (w .out) x (take 16384 work′) out′ t (k .keeps) .pushes (w .starts) s (y .context);
+      context = pushing (b .context) (take regionSize (w .work)) (w .out) x (take regionSize work′) out′ t (k .keeps) .pushes (w .starts) s (y .context);
       links = linked-same (e .media) (e .setext) l;
       kept = keeps-same (e .kept) (e .labels) m;
     }
@@ -95,7 +96,7 @@ holds {b = b} {work = work} {starts = starts} {work′ = work′} {l = l} k drop
           places = y .places;
           context = rel-alike (alike-setext (some (f .0)) (setCaptures (f .1) s)) (rw (st .1 .before) r);
           links = linked-same refl refl (rw (c .bytes) at (st .0));
-          kept = (let e : Keeps (b .kept) text (regionAt 32768 work′) (w .tables) s = rw (st .1 .behind) (y .kept) in keeps-same refl refl e);
+          kept = (let e : Keeps (b .kept) text (regionAt keptAt work′) (w .tables) s = rw (st .1 .behind) (y .kept) in keeps-same refl refl e);
         });
   };
 }

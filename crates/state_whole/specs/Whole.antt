@@ -3,6 +3,7 @@ use mathlib.Core.Path.{_≡_}
 use mathlib.Core.List.{List, _++_}
 use Prim.Native.Nat.{ℕ, _≤_}
 use lib.ListN.{length, take, drop}
+use Rattle.regions.specs.Sizes.{regionSize, heldAt, keptAt, workSize}
 use Rattle.machine.specs.State.{State}
 use Rattle.machine.specs.Outcome.{go}
 use Rattle.machine.specs.Turn.{Turn}
@@ -25,11 +26,11 @@ pub record World : Type 0 where
   pub tables : Tables
 
 pub record Built (text : List ℕ) (b : Whole) (w : World) (s : State) : Type 0 where
-  pub long : length (w .work) ≡ 49152
+  pub long : length (w .work) ≡ workSize
   pub places : length (w .starts) ≡ 64
-  pub context : Rel (b .context) (take 16384 (w .work)) (w .out) (w .starts) s
-  pub links : Linked (b .links) (regionAt 16384 (w .work)) s
-  pub kept : Keeps (b .kept) text (regionAt 32768 (w .work)) (w .tables) s
+  pub context : Rel (b .context) (take regionSize (w .work)) (w .out) (w .starts) s
+  pub links : Linked (b .links) (regionAt heldAt (w .work)) s
+  pub kept : Keeps (b .kept) text (regionAt keptAt (w .work)) (w .tables) s
 
 -- ---- what is asked for before: nothing, or that there is room
 
@@ -37,10 +38,10 @@ abbrev pub Always : Whole → Type 0
 Always b = Unit
 
 abbrev pub Held : Whole → Type 0
-Held b = b .links .end ≤ 16384
+Held b = b .links .end ≤ regionSize
 
 pub record Roomy (b : Whole) : Type 0 where
-  pub captures : b .context .buffers .end ≤ 16384
+  pub captures : b .context .buffers .end ≤ regionSize
   pub held : Held b
 
 -- where the machine goes on with a command, the code goes with it
@@ -72,7 +73,7 @@ withTables x w = record { work = w .work; out = w .out; starts = w .starts; tabl
 
 -- the captures, the first of the three regions, and the page
 abbrev pub withBytes : (captures out : List ℕ) → World → World
-withBytes captures out w = record { work = captures ++ drop 16384 (w .work); out = out; starts = w .starts; tables = w .tables }
+withBytes captures out w = record { work = captures ++ drop regionSize (w .work); out = out; starts = w .starts; tables = w .tables }
 
 -- ---- handlers by what they are lent
 

@@ -18,15 +18,15 @@ pub fn lack(b: Whole, room: usize) -> usize
 {
     let c = b.context;
     let captures = c.buffers;
-    if 16384 < captures.end {
+    if regions::SIZE < captures.end {
         return 8;
     }
     let held = b.links;
-    if 16384 < held.end {
+    if regions::SIZE < held.end {
         return 8;
     }
     let kept = b.kept;
-    if 16384 < kept.end {
+    if regions::SIZE < kept.end {
         return 8;
     }
     if room < captures.page {

@@ -5,14 +5,17 @@ ghost use Rattle.lent.specs.Bytes.{any};
 ghost use Rattle.lent.specs.Fill.{zeros};
 ghost use Rattle.wipe.specs.Set.{isSet};
 
+// A part that is looked at at once.
+const PART: usize = 16384;
+
 // Zeros everywhere. A part that is zero already is only read, as most of a work buffer is: it was wiped after the call before.
 pub fn wipe(out: &mut [u8])
     ensures { λ _. ⌜ now (out .exit) ≡ zeros (length (now (out .entry))) ⌝ }
 {
     let mut i: usize = 0;
-    while 16384 <= out.len() - i {
-        wipe_part(&mut out[i..i + 16384]);
-        i += 16384;
+    while PART <= out.len() - i {
+        wipe_part(&mut out[i..i + PART]);
+        i += PART;
     }
     lent::clear(out, i);
 }

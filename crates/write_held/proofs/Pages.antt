@@ -5,6 +5,7 @@ use mathlib.Core.List.{List, _++_}
 use Prim.Native.Nat.{ℕ, _<_}
 use native.Mathlib.Omega.{arith}
 use lib.ListN.{length, take, drop}
+use Rattle.regions.specs.Sizes.{regionSize}
 use Rattle.machine.specs.Outcome.{Outcome, stop, go, _>>=_}
 use Rattle.machine.specs.State.{State}
 use Rattle.machine.specs.Turn.{Turn}
@@ -17,17 +18,17 @@ use Rattle.state_whole.specs.Quiet.{isQuiet}
 use Rattle.state_whole.specs.Whole.{World, Always, Handles, OnPage, withContext, withOut, withWork}
 use Rattle.state_whole.proofs.Lifts.{lifts, then}
 
-pub too-short : {N : Whole → Type 0} {View : Turn → Type 0} {d : Command} {b : Whole} {work out : List ℕ} → length work < 16384 → OnPage N View d b work out b work out
+pub too-short : {N : Whole → Type 0} {View : Turn → Type 0} {d : Command} {b : Whole} {work out : List ℕ} → length work < regionSize → OnPage N View d b work out b work out
 too-short h = record { on-page = λ text w i j. record { handles = λ t s u v a y p. (let l = y .long in let e = ap length i in absurd (omega arith)) } }
 
 -- other work bytes that are the same
-moved : {text : List ℕ} {N : Whole → Type 0} {View : Turn → Type 0} {d : Command} {b r : Whole} {w : World} {out : List ℕ} (captures x y : List ℕ) → x ≡ y → Handles text N View d b w r (withOut out (withWork (captures ++ drop 16384 x) w))
-    → Handles text N View d b w r (withOut out (withWork (captures ++ drop 16384 y) w))
+moved : {text : List ℕ} {N : Whole → Type 0} {View : Turn → Type 0} {d : Command} {b r : Whole} {w : World} {out : List ℕ} (captures x y : List ℕ) → x ≡ y → Handles text N View d b w r (withOut out (withWork (captures ++ drop regionSize x) w))
+    → Handles text N View d b w r (withOut out (withWork (captures ++ drop regionSize y) w))
 moved captures x y p k = rw p at k
 
-pub lifts-page : {View : Turn → Type 0} {d : Command} {b : Whole} {x : Context} {work out captures′ out′ : List ℕ} → isQuiet d ≡ true → Keeps View d (b .context) (take 16384 work) out x captures′ out′ → length captures′ ≡ length (take 16384 work)
-    → OnPage Always View d b work out (withContext x b) (captures′ ++ drop 16384 work) out′
-lifts-page {work = work} {captures′ = captures′} q k n = record { on-page = λ text w i j. moved captures′ (w .work) work i (lifts q k (ap (take 16384) i) j n) }
+pub lifts-page : {View : Turn → Type 0} {d : Command} {b : Whole} {x : Context} {work out captures′ out′ : List ℕ} → isQuiet d ≡ true → Keeps View d (b .context) (take regionSize work) out x captures′ out′ → length captures′ ≡ length (take regionSize work)
+    → OnPage Always View d b work out (withContext x b) (captures′ ++ drop regionSize work) out′
+lifts-page {work = work} {captures′ = captures′} q k n = record { on-page = λ text w i j. moved captures′ (w .work) work i (lifts q k (ap (take regionSize) i) j n) }
 
 module _ {N M : Whole → Type 0} {View : Turn → Type 0} {d e : Command} {b r q : Whole} {work out work′ out′ work″ out″ : List ℕ} where
   pub then-on-page : OnPage N View d b work out r work′ out′ → OnPage M View e r work′ out′ q work″ out″ → (N b → M r) → OnPage N View (d ▸ e) b work out q work″ out″

@@ -5,6 +5,7 @@ use mathlib.Core.List.{List, [], _∷_, _++_, append-assoc}
 use Prim.Native.Nat.{ℕ, _+_, _<_}
 use native.Mathlib.Omega.{arith}
 use lib.ListN.{length, take, drop}
+use Rattle.regions.specs.Sizes.{regionSize}
 use Rattle.machine.specs.State.{State}
 use Rattle.machine.specs.Set.{setCaptures}
 use Rattle.machine.specs.Buffers.{push}
@@ -19,15 +20,15 @@ use Rattle.write_held.specs.Show.{asIs, Showing, ShowsText, ShowsPiece}
 
 -- ---- what the functions promise
 
-pub shows-short : {t : List ℕ} {b : Buffers} {work out : List ℕ} → length work < 16384 → ShowsText t b work out b work out
+pub shows-short : {t : List ℕ} {b : Buffers} {work out : List ℕ} → length work < regionSize → ShowsText t b work out b work out
 shows-short h = record { shows = λ l. absurd (omega arith) }
 
-pub shows-far : {f : List ℕ → List ℕ} {base place n : ℕ} {b : Buffers} {work out : List ℕ} → 16384 < place → ShowsPiece f base place n b work out b work out
+pub shows-far : {f : List ℕ → List ℕ} {base place n : ℕ} {b : Buffers} {work out : List ℕ} → regionSize < place → ShowsPiece f base place n b work out b work out
 shows-far h = record { shows = λ c l lo hi i p. absurd (omega arith) }
 
 module _ {b r : Buffers} {work out out′ : List ℕ} where
   -- the captures come back before the bytes behind them
-  pub shows-text : {t captures′ : List ℕ} → Keeps (push t) b (take 16384 work) out r captures′ out′ → length captures′ ≡ length (take 16384 work) → ShowsText t b work out r (captures′ ++ drop 16384 work) out′
+  pub shows-text : {t captures′ : List ℕ} → Keeps (push t) b (take regionSize work) out r captures′ out′ → length captures′ ≡ length (take regionSize work) → ShowsText t b work out r (captures′ ++ drop regionSize work) out′
   shows-text {captures′ = captures′} k n = record {
     shows = λ l.
         let m = n ∙ front-long work l in

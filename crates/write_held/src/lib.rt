@@ -1,6 +1,7 @@
 // Texts of ours, and pieces of what is held or kept, written to the newest buffer. What is held stands behind the captures in the same work bytes.
 ghost use mathlib.Core.Path.{_≡_};
 ghost use lib.ListN.{length, take, drop};
+ghost use Rattle.regions.specs.Sizes.{regionSize, keptAt};
 ghost use Rattle.machine.specs.Turn.{urlOf};
 ghost use Rattle.write_held.specs.Parts.{PushesPart, PushesUrlPart};
 ghost use Rattle.write_held.specs.Private.{isPart, Part, Appended};
@@ -31,7 +32,7 @@ pub fn push_part(b: Buffers, work: &mut [u8], out: &mut [u8], from: usize, n: us
 fn is_part(len: usize, from: usize, n: usize) -> bool
     ensures { λ r. ⌜ r ≡ isPart len from n ⌝ }
 {
-    if from < 16384 {
+    if from < regions::HELD_AT {
         return false;
     }
     if len < n {
@@ -58,7 +59,7 @@ pub fn push_url_part(
     if !is_part(work.len(), from, n) {
         return b;
     }
-    if 16384 < n {
+    if regions::SIZE < n {
         return b;
     }
     if b.depth == 0 {
@@ -78,7 +79,7 @@ fn put_url(
     options: Options,
     image: bool,
 ) -> usize
-    requires { ⌜ Part (now work) from n 16384 ⌝ }
+    requires { ⌜ Part (now work) from n regionSize ⌝ }
     ensures { λ r. ⌜ Appended (now (work .entry)) at (urlOf options image (take n (drop from (now (work .entry))))) (now (work .exit)) r ⌝ }
 {
     if n <= 256 {
@@ -110,10 +111,10 @@ fn put_long_url(
     options: Options,
     image: bool,
 ) -> usize
-    requires { ⌜ Part (now work) from n 16384 ⌝ }
+    requires { ⌜ Part (now work) from n regionSize ⌝ }
     ensures { λ r. ⌜ Appended (now (work .entry)) at (urlOf options image (take n (drop from (now (work .entry))))) (now (work .exit)) r ⌝ }
 {
-    let mut copy = [0u8; 16384];
+    let mut copy = [0u8; regions::SIZE];
     put_url_by(work, at, from, n, options, image, &mut copy)
 }
 
@@ -131,7 +132,7 @@ fn put_url_by(
     ensures { λ r. ⌜ Appended (now (work .entry)) at (urlOf options image (take n (drop from (now (work .entry))))) (now (work .exit)) r ⌝ }
 {
     lent::put_all(copy, 0, &work[from..from + n]);
-    write_pieces::put_url(&mut work[0..16384], at, &copy[0..n], options, image)
+    write_pieces::put_url(&mut work[0..regions::SIZE], at, &copy[0..n], options, image)
 }
 
 // ---- texts and pieces
@@ -139,10 +140,10 @@ fn put_url_by(
 pub fn push_text(b: Buffers, work: &mut [u8], out: &mut [u8], s: &[u8]) -> Buffers
     ensures { λ r. ⌜ ShowsText (now (s .entry)) b (now (work .entry)) (now (out .entry)) r (now (work .exit)) (now (out .exit)) ⌝ }
 {
-    if work.len() < 16384 {
+    if work.len() < regions::SIZE {
         return b;
     }
-    state_buffers::push(b, &mut work[0..16384], out, s)
+    state_buffers::push(b, &mut work[0..regions::SIZE], out, s)
 }
 
 // n bytes from a place on of the region that starts at `base`.
@@ -154,10 +155,10 @@ pub fn push_piece(
     place: usize,
     n: usize,
 ) -> Buffers
-    requires { ⌜ base ≤ 32768 ⌝ }
+    requires { ⌜ base ≤ keptAt ⌝ }
     ensures { λ r. ⌜ ShowsPiece asIs base place n b (now (work .entry)) (now (out .entry)) r (now (work .exit)) (now (out .exit)) ⌝ }
 {
-    if 16384 < place {
+    if regions::SIZE < place {
         return b;
     }
     push_part(b, work, out, base + place, n)
@@ -174,10 +175,10 @@ pub fn push_url_piece(
     options: Options,
     image: bool,
 ) -> Buffers
-    requires { ⌜ base ≤ 32768 ⌝ }
+    requires { ⌜ base ≤ keptAt ⌝ }
     ensures { λ r. ⌜ ShowsPiece (urlOf options image) base place n b (now (work .entry)) (now (out .entry)) r (now (work .exit)) (now (out .exit)) ⌝ }
 {
-    if 16384 < place {
+    if regions::SIZE < place {
         return b;
     }
     push_url_part(b, work, out, base + place, n, options, image)

@@ -6,6 +6,7 @@ use Prim.Native.Nat.{ℕ, zero, suc, _+_, _-_, _≤_, _<_}
 use native.Mathlib.Omega.{arith}
 use lib.ListN.{length, take, drop, getD, getElem?, length-take}
 use lib.Seq.{getD-take}
+use Rattle.regions.specs.Sizes.{regionSize, keptAt, workSize}
 use Rattle.normalize_identifier.specs.declared.Found.{Found}
 use Rattle.normalize_identifier.specs.declared.Found.the-variants.{At, Nothing}
 use Rattle.normalize_identifier.specs.Search.{parts, labelsOf}
@@ -14,7 +15,7 @@ use Rattle.machine.specs.Outcome.{go, _>>=_, need}
 use Rattle.machine.specs.State.{State, Footnote, Call}
 use Rattle.machine.specs.Footnote.{callLabels}
 use Rattle.machine.specs.Section.{footnoteAt, bodyOf}
-use Rattle.machine.specs.Totals.{kept}
+use Rattle.machine.specs.Totals.{kept, mostTotal}
 use Rattle.machine.proofs.Outcomes.{never}
 use Rattle.state_kept.specs.declared.Kept.{Kept}
 use Rattle.state_kept.specs.Kept.{column, LabelIs, Labels}
@@ -22,6 +23,7 @@ use Rattle.state_kept.proofs.Lists.{index-low}
 use Rattle.state_kept.proofs.Calls.{times-are}
 use Rattle.state_kept.specs.Contracts.{FindsFootnote, TellsTimes}
 use Rattle.state_kept.proofs.Start.{region-piece}
+use Rattle.state_kept.specs.Sizes.{noteRows}
 use Rattle.write_section.specs.Pages.{itemPage}
 use Rattle.write_section.specs.Contracts.{Writes, There, WritesFound, WritesCall}
 
@@ -64,24 +66,24 @@ body-at fs j body p = on (getElem? fs j) refl p
     on (some f) e q = (f, e, cc)
 
 module _ {ending : Ending} {label work footnotes : List ℕ} {times j at : ℕ} {d : List ℕ} where
-  pub work-short : (length work ≡ 49152 → ⊥) → WritesFound ending label times work footnotes j d at d at
+  pub work-short : (length work ≡ workSize → ⊥) → WritesFound ending label times work footnotes j d at d at
   work-short h = record { writes = λ l e p. absurd (h l) }
 
-  module _ {place : ℕ} (a : place ≡ getD (column 64 2 footnotes) j 0) where
-    pub place-outside : 16384 < place → WritesFound ending label times work footnotes j d at d at
+  module _ {place : ℕ} (a : place ≡ getD (column noteRows 2 footnotes) j 0) where
+    pub place-outside : regionSize < place → WritesFound ending label times work footnotes j d at d at
     place-outside h = record { writes = λ l e p. absurd (omega (arith, p .below)) }
 
-    module _ {n : ℕ} (b : n ≡ getD (column 64 3 footnotes) j 0) where
-      pub length-outside : 16384 - place < n → WritesFound ending label times work footnotes j d at d at
+    module _ {n : ℕ} (b : n ≡ getD (column noteRows 3 footnotes) j 0) where
+      pub length-outside : regionSize - place < n → WritesFound ending label times work footnotes j d at d at
       length-outside h = record { writes = λ l e p. absurd (omega (arith, p .below)) }
 
-      pub body-there : {f : List ℕ} {r : ℕ} → Writes (itemPage ending label times (take (32768 + place + n - (32768 + place)) (drop (32768 + place) work))) d at f r
+      pub body-there : {f : List ℕ} {r : ℕ} → Writes (itemPage ending label times (take (keptAt + place + n - (keptAt + place)) (drop (keptAt + place) work))) d at f r
           → WritesFound ending label times work footnotes j d at f r
       body-there w = record {
         writes = λ {body} l e p.
-            let m : 32768 + place + n - (32768 + place) ≡ n = omega arith in
-            let q = region-piece 32768 e p in
-            let x : take n (drop (32768 + place) work) ≡ body = rw (a, b) (q .bytes) in
+            let m : keptAt + place + n - (keptAt + place) ≡ n = omega arith in
+            let q = region-piece keptAt e p in
+            let x : take n (drop (keptAt + place) work) ≡ body = rw (a, b) (q .bytes) in
             rw (m, x) at w;
       }
 
@@ -91,18 +93,18 @@ item-same : (ending : Ending) (label label′ : List ℕ) (times times′ : ℕ)
     → Writes (itemPage ending label times body) d at e r → Writes (itemPage ending label′ times′ body′) d at e r
 item-same ending label label′ times times′ body body′ a b c w = rw (← a, ← b, ← c) w
 
-module _ {k : Kept} {text work footnotes calls : List ℕ} {from to : ℕ} (i : ℕ) (a : from ≡ getD (column 64 0 calls) i 0) (b : to ≡ getD (column 64 1 calls) i 0) {s : State} (t : There k text work footnotes calls s) {c : Call} (p : getElem? (s .kept .calls) i ≡ some c) where
+module _ {k : Kept} {text work footnotes calls : List ℕ} {from to : ℕ} (i : ℕ) (a : from ≡ getD (column noteRows 0 calls) i 0) (b : to ≡ getD (column noteRows 1 calls) i 0) {s : State} (t : There k text work footnotes calls s) {c : Call} (p : getElem? (s .kept .calls) i ≡ some c) where
   call-label : LabelIs text from to (c .label)
   call-label = rw (a, b) (label-of (s .kept .calls) i (t .keeps .calls .rows) (t .keeps .calls .labels) p)
 
-  kept-fits : kept s ≤ 16384
+  kept-fits : kept s ≤ mostTotal
   kept-fits = let x = t .keeps .end in let y = t .fits in omega arith
 
   body-found : {found : Found} {body : List ℕ} → FindsFootnote k text from to footnotes found → bodyOf (c .label) (s .kept .footnotes) ≡ go body
       → (footnoteAt (s .kept .footnotes) found >>= λ f. go (f .body)) ≡ go body
   body-found g q = rw (g .finds (t .keeps) kept-fits call-label) q
 
-module _ {k : Kept} {ending : Ending} {text work footnotes calls : List ℕ} {i at from to : ℕ} {d : List ℕ} (a : from ≡ getD (column 64 0 calls) i 0) (b : to ≡ getD (column 64 1 calls) i 0) where
+module _ {k : Kept} {ending : Ending} {text work footnotes calls : List ℕ} {i at from to : ℕ} {d : List ℕ} (a : from ≡ getD (column noteRows 0 calls) i 0) (b : to ≡ getD (column noteRows 1 calls) i 0) where
   pub called-unordered : to < from → WritesCall k ending text work footnotes calls i d at d at
   called-unordered h = record { writes = λ t p q. absurd (omega (arith, call-label i a b t p .ordered)) }
 

@@ -5,6 +5,7 @@ use mathlib.Core.Option.{some}
 use Prim.Native.Nat.{ℕ, _≤_}
 use lib.ListN.{length, getD, getElem?}
 use Rattle.regions.specs.Regions.{regionAt}
+use Rattle.regions.specs.Sizes.{regionSize, keptAt, workSize}
 use Rattle.normalize_identifier.specs.declared.Found.{Found}
 use Rattle.normalize_identifier.specs.Search.{firstSame}
 use Rattle.machine.specs.declared.Ending.{Ending}
@@ -16,13 +17,14 @@ use Rattle.machine.specs.Totals.{kept}
 use Rattle.state_kept.specs.declared.Kept.{Kept}
 use Rattle.state_kept.specs.Kept.{column, LabelIs, Piece, tables, Keeps}
 use Rattle.state_buffers.specs.Stand.{Holds}
+use Rattle.state_kept.specs.Sizes.{noteRows}
 use Rattle.write_section.specs.Pages.{itemPage, itemsPage}
 
 -- ---- the section
 
 pub record WritesSection (k : Kept) (fixed : Fixed) (text work footnotes calls out : List ℕ) (at : ℕ) (out′ : List ℕ) (r : ℕ) : Type 0 where
-  pub writes : (definitions labels : List ℕ) (s u : State) → s .captures ≡ [] → s .fixed ≡ fixed → length work ≡ 49152 → k .end ≤ 16384
-      → Keeps k text (regionAt 32768 work) (tables definitions footnotes calls labels) s → Holds out at (s .page) → footnoteSection s ≡ go u
+  pub writes : (definitions labels : List ℕ) (s u : State) → s .captures ≡ [] → s .fixed ≡ fixed → length work ≡ workSize → k .end ≤ regionSize
+      → Keeps k text (regionAt keptAt work) (tables definitions footnotes calls labels) s → Holds out at (s .page) → footnoteSection s ≡ go u
       → Holds out′ r (u .page) × (length out′ ≡ length out)
 
 -- ---- the inner functions
@@ -35,13 +37,13 @@ pub record Writes (f : List ℕ → List ℕ) (out : List ℕ) (at : ℕ) (out�
 pub record There (k : Kept) (text work footnotes calls : List ℕ) (s : State) : Type 0 where
   pub definitions : List ℕ
   pub labels : List ℕ
-  pub long : length work ≡ 49152
-  pub fits : k .end ≤ 16384
-  pub keeps : Keeps k text (regionAt 32768 work) (tables definitions footnotes calls labels) s
+  pub long : length work ≡ workSize
+  pub fits : k .end ≤ regionSize
+  pub keeps : Keeps k text (regionAt keptAt work) (tables definitions footnotes calls labels) s
 
 -- the item of the footnote in row j of the table
 pub record WritesFound (ending : Ending) (label : List ℕ) (times : ℕ) (work footnotes : List ℕ) (j : ℕ) (out : List ℕ) (at : ℕ) (out′ : List ℕ) (r : ℕ) : Type 0 where
-  pub writes : {body : List ℕ} {end : ℕ} → length work ≡ 49152 → end ≤ 16384 → Piece (regionAt 32768 work) end (getD (column 64 2 footnotes) j 0) (getD (column 64 3 footnotes) j 0) body
+  pub writes : {body : List ℕ} {end : ℕ} → length work ≡ workSize → end ≤ regionSize → Piece (regionAt keptAt work) end (getD (column noteRows 2 footnotes) j 0) (getD (column noteRows 3 footnotes) j 0) body
       → Writes (itemPage ending label times body) out at out′ r
 
 -- the item of the ith call

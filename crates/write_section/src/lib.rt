@@ -188,18 +188,18 @@ fn put_found(
 ) -> usize
     ensures { λ r. ⌜ WritesFound ending (now (label .entry)) times (now (work .entry)) (now (footnotes .entry)) j (now (out .entry)) at (now (out .exit)) r ⌝ }
 {
-    if work.len() != 49152 {
+    if work.len() != regions::WORK {
         return at;
     }
     let place = state_kept::footnote_place(footnotes, j);
     let n = state_kept::footnote_length(footnotes, j);
-    if 16384 < place {
+    if regions::SIZE < place {
         return at;
     }
-    if 16384 - place < n {
+    if regions::SIZE - place < n {
         return at;
     }
-    let from = 32768 + place;
+    let from = regions::KEPT_AT + place;
     let to = from + n;
     let body = &work[from..to];
     put_item(ending, label, times, body, out, at)

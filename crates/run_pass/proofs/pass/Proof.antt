@@ -4,6 +4,7 @@ use Prim.Native.Nat.{_/_, _-_}
 use native.Mathlib.Omega.{arith}
 use lib.ListN.{length}
 use borrow.Author.Needs.{needs}
+use Rattle.regions.specs.Sizes.{workSize}
 use Rattle.state_kept.specs.Kept.{tables}
 use Rattle.dispatch_turns.specs.Loud.{world}
 use Rattle.dispatch_handle.proofs.Laws.{quiet-enter, turned-quietly, turned-wholly}
@@ -14,7 +15,7 @@ use Rattle.run_pass.proofs.pass.Tie as tie
 
 abbrev Inv-loop : tie.InvT-loop
 Inv-loop first text events options work₀ starts₀ out₀ definitions₀ footnotes₀ calls₀ labels₀ n r₀ p₀ number₀ work starts out definitions footnotes calls labels r p number =
-    (n ≡ length events / 20) × (length work ≡ 49152) × (length work ≡ length work₀) × (length starts ≡ length starts₀) × (length out ≡ length out₀) × (length definitions ≡ length definitions₀) × (length footnotes ≡ length footnotes₀) × (length calls ≡ length calls₀) × (length labels ≡ length labels₀)
+    (n ≡ length events / 20) × (length work ≡ workSize) × (length work ≡ length work₀) × (length starts ≡ length starts₀) × (length out ≡ length out₀) × (length definitions ≡ length definitions₀) × (length footnotes ≡ length footnotes₀) × (length calls ≡ length calls₀) × (length labels ≡ length labels₀)
     × Stays first text events options r₀ (world work₀ out₀ starts₀ (tables definitions₀ footnotes₀ calls₀ labels₀)) (p .inside) (p .at) number r (world work out starts (tables definitions footnotes calls labels))
 
 abbrev μ-loop : tie.MeasureT-loop
