@@ -1,4 +1,4 @@
--- What the code goes by on one block: its words, its zeros, and verdicts. Assumes nothing.
+-- What the code goes by on one block: its zeros, and verdicts. Assumes nothing.
 use mathlib.Core.Path.{_≡_, refl, sym, _∙_}
 use mathlib.Core.Bool.{Bool, true, false, _&&_, and-assoc, and-true}
 use mathlib.Core.List.{List, [], _∷_}
@@ -10,29 +10,12 @@ use lib.ListN.{length, take, drop, getD, drop-of-length-le}
 use lib.Seq.{take-nil, drop-drop}
 use Rattle.lent.specs.Bytes.{all}
 use Rattle.lent.proofs.Laws.{next, and-left, and-right}
+use Rattle.little.proofs.Laws.{one-byte}
 use Rattle.bundle_block.specs.declared.Refusal.{Refusal}
 use Rattle.bundle_block.specs.declared.Refusal.the-variants.{Broken, BadCheck, OtherEdition}
 use Rattle.bundle_block.specs.declared.Verdict.{Verdict}
 use Rattle.bundle_block.specs.declared.Verdict.the-variants.{Good, Bad}
 use Rattle.bundle_block.specs.Block.{number, field, checkOf, editionIn, numberIn, checkIn, isZero, _before_, demand, judgeCheck, judgeEdition, judgeOrder, judgeBlock}
-
--- ---- words
-
-one-byte : (l : List ℕ) (at : ℕ) → at < length l → field at 1 l ≡ getD l at 0
-unfolding number
-one-byte l at h = rw (next l at h) (omega arith)
-
-module _ (l : List ℕ) (at : ℕ) {a b : ℕ} where
-  pub two-bytes : a ≡ getD l at 0 → b ≡ getD l (at + 1) 0 → at + 2 ≤ length l → a + 256 * b ≡ field at 2 l
-  unfolding number
-  two-bytes p q h = rw (next l at (omega arith), next l (at + 1) (omega arith)) (omega arith)
-
-  pub two-halves : a ≡ field at 2 l → b ≡ field (at + 2) 2 l → at + 4 ≤ length l → a + 65536 * b ≡ field at 4 l
-  unfolding number
-  two-halves p q h =
-      let m : at + 1 + 1 ≡ at + 2 = omega arith in
-      let n : at + 2 + 1 ≡ at + 3 = omega arith in
-      rw (p, q, next l at (omega arith), next l (at + 1) (omega arith), m, next l (at + 2) (omega arith), n, next l (at + 3) (omega arith)) (omega arith)
 
 -- ---- zeros
 
@@ -96,7 +79,7 @@ module _ (b : List ℕ) (k : ℕ) {v : Verdict} where
   unfolding judgeOrder
   order-judged kind used h i p q r =
       let n : 508 - (8 + used) ≡ 500 - used = omega arith in
-      r ∙ rw (p, q, n, one-byte b 6 (omega arith), one-byte b 7 (omega arith), drop-take used 500 (drop 8 b), drop-drop used 8 b)
+      r ∙ rw (p, q, n, ← one-byte 6 b, ← one-byte 7 b, drop-take used 500 (drop 8 b), drop-drop used 8 b)
 
   pub judged : {x y o w : Verdict} (e kind used : ℕ) → x ≡ judgeCheck k b → y ≡ judgeEdition e k b → o ≡ judgeOrder k kind used b → w ≡ (y before o) → v ≡ (x before w) → v ≡ judgeBlock e k kind used b
   unfolding judgeBlock

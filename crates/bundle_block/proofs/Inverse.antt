@@ -12,9 +12,10 @@ use Rattle.lent.specs.Bytes.{all}
 use Rattle.lent.specs.Fill.{zeros}
 use Rattle.bundle_block.specs.declared.Refusal.the-variants.{Broken, BadCheck, OtherEdition}
 use Rattle.bundle_block.specs.declared.Verdict.the-variants.{Good}
+use Rattle.little.proofs.Laws.{length-little, number-little}
 use Rattle.bundle_block.specs.Block.{isByte, little, number, field, checkOf, frontOf, blockOf, editionIn, numberIn, kindIn, zeroIn, payloadIn, checkIn, isZero, _before_, judgeCheck, judgeEdition, judgeOrder, judgeBlock}
 use Rattle.bundle_block.proofs.Block.{demanded, both-true, both-good}
-use Rattle.bundle_block.proofs.Words.{all-append, all-take, all-drop, all-zeros, zeros-alone, length-little, bytes-little, number-little, little-number, check-small}
+use Rattle.bundle_block.proofs.Words.{all-append, all-take, all-drop, all-zeros, zeros-alone, bytes-little, little-number, check-small}
 
 -- ---- what a good verdict says
 

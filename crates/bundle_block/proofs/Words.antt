@@ -50,23 +50,10 @@ zeros-alone (b ∷ l) p =
 
 -- ---- numbers
 
-pub length-little : (n x : ℕ) → length (little n x) ≡ n
-unfolding little
-length-little zero x = refl
-length-little (suc n) x = ap suc (length-little n (x / 256))
-
 pub bytes-little : (n x : ℕ) → all isByte (little n x) ≡ true
 unfolding little
 bytes-little zero x = refl
 bytes-little (suc n) x = both (lt-ltb (x % 256) 256 (omega arith)) (bytes-little n (x / 256))
-
-pub number-little : (n x : ℕ) → x < 256 ^ n → number (little n x) ≡ x
-unfolding little number
-number-little zero x h = omega arith
-number-little (suc n) x h =
-    let e = pow-suc 256 n in
-    let i = number-little n (x / 256) (omega arith) in
-    rw i (omega arith)
 
 pub little-number : (l : List ℕ) → all isByte l ≡ true → little (length l) (number l) ≡ l
 unfolding little number

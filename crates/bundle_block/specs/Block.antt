@@ -6,6 +6,8 @@ use lib.Dec.{eqb, ltb}
 use lib.ListN.{length, take, drop}
 use Rattle.lent.specs.Bytes.{all}
 use Rattle.lent.specs.Fill.{zeros}
+unfoldable pub use Rattle.little.specs.Little.{little, number}
+pub use Rattle.little.specs.Little.{field}
 use Rattle.bundle_block.specs.declared.Refusal.{Refusal}
 use Rattle.bundle_block.specs.declared.Refusal.the-variants.{Broken, BadCheck, OtherEdition}
 use Rattle.bundle_block.specs.declared.Verdict.{Verdict}
@@ -13,16 +15,6 @@ use Rattle.bundle_block.specs.declared.Verdict.the-variants.{Good, Bad}
 
 abbrev pub isByte : ℕ → Bool
 isByte b = ltb b 256
-
--- a number in so many bytes, little endian
-unfoldable pub little : ℕ → ℕ → List ℕ
-little zero x = []
-little (suc n) x = x % 256 ∷ little n (x / 256)
-
--- the number that bytes hold, little endian
-unfoldable pub number : List ℕ → ℕ
-number [] = 0
-number (b ∷ bs) = b + 256 * number bs
 
 -- the sum of (place + 1) times byte; the first byte stands at the place given
 unfoldable pub weighed : ℕ → List ℕ → ℕ
@@ -44,10 +36,6 @@ unfoldable pub blockOf : (edition block kind : ℕ) → List ℕ → List ℕ
 blockOf edition block kind payload = frontOf edition block kind payload ++ little 4 (checkOf (frontOf edition block kind payload))
 
 -- ---- read
-
--- the number in so many bytes from a place on
-abbrev pub field : (place size : ℕ) → List ℕ → ℕ
-field place size b = number (take size (drop place b))
 
 -- a block's fields
 abbrev pub editionIn : List ℕ → ℕ

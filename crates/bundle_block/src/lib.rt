@@ -3,7 +3,7 @@ ghost use Prim.Native.Nat.{ℕ, _+_, _*_, _%_, _≤_, _<_, min};
 ghost use mathlib.Core.Path.{_≡_};
 ghost use lib.ListN.{length, getD};
 ghost use Rattle.lent.specs.Bytes.{all};
-ghost use Rattle.bundle_block.specs.Block.{field, weighed, checkOf, isZero, _before_, demand as demanded, judgeCheck, judgeEdition, judgeOrder, judgeBlock};
+ghost use Rattle.bundle_block.specs.Block.{weighed, checkOf, isZero, _before_, demand as demanded, judgeCheck, judgeEdition, judgeOrder, judgeBlock};
 ghost use Rattle.bundle_block.specs.Lanes.{sumOf, added};
 
 // A row of the check has sixteen lanes, a byte each. Loops over lanes end at this constant, so that the compiler makes vector code of them.
@@ -41,7 +41,7 @@ fn judge_check(block: &[u8], index: usize) -> Verdict
     requires { ⌜ length (now block) ≡ 512 ⌝ }
     ensures { λ r. ⌜ r ≡ judgeCheck index (now (block .entry)) ⌝ }
 {
-    let right = u32_at(block, 508) == check_of(&block[0..508]);
+    let right = little::u32_at(block, 508) == check_of(&block[0..508]);
     demand(right, Refusal::BadCheck(index))
 }
 
@@ -50,7 +50,7 @@ fn judge_edition(block: &[u8], edition: u32, index: usize) -> Verdict
     requires { ⌜ length (now block) ≡ 512 ⌝ }
     ensures { λ r. ⌜ r ≡ judgeEdition edition index (now (block .entry)) ⌝ }
 {
-    let same = u32_at(block, 0) == edition;
+    let same = little::u32_at(block, 0) == edition;
     demand(same, Refusal::OtherEdition(index))
 }
 
@@ -59,7 +59,7 @@ fn judge_order(block: &[u8], index: usize, kind: u8, used: usize) -> Verdict
     requires { ⌜ (length (now block) ≡ 512) × (used ≤ 500) ⌝ }
     ensures { λ r. ⌜ r ≡ judgeOrder index kind used (now (block .entry)) ⌝ }
 {
-    let number = u16_at(block, 4) as usize;
+    let number = little::u16_at(block, 4) as usize;
     let unused = is_zero(&block[8 + used..508]);
     demand(
         (number == index) & (block[6] == kind) & (block[7] == 0) & unused,
@@ -217,22 +217,6 @@ fn is_zero(part: &[u8]) -> bool
         seen += 1;
     }
     zero
-}
-
-// Two bytes, little endian.
-fn u16_at(s: &[u8], at: usize) -> u32
-    requires { ⌜ at + 2 ≤ length (now s) ⌝ }
-    ensures { λ r. ⌜ (r ≡ field at 2 (now (s .entry))) × (r < 65536) ⌝ }
-{
-    wide(s[at]) + 256 * wide(s[at + 1])
-}
-
-// Four bytes, little endian.
-pub fn u32_at(s: &[u8], at: usize) -> u32
-    requires { ⌜ at + 4 ≤ length (now s) ⌝ }
-    ensures { λ r. ⌜ r ≡ field at 4 (now (s .entry)) ⌝ }
-{
-    u16_at(s, at) + 65536 * u16_at(s, at + 2)
 }
 
 fn wide(b: u8) -> u32

@@ -8,23 +8,9 @@ use lib.ListN.{length, take, drop, length-append, length-take, length-drop, leng
 use lib.Seq.{take-all, append-snoc, drop-drop}
 use Rattle.lent.specs.Fill.{fill, zeros, Filled}
 use Rattle.lent.proofs.Laws.{Left, all, step, done, both, same, length-filled, fill-behind, take-fill}
+use Rattle.little.proofs.Laws.{length-little}
 use Rattle.bundle_block.specs.Block.{little, checkOf, frontOf, blockOf}
-use Rattle.bundle_block.proofs.Words.{length-little}
 use Rattle.bundle_block.proofs.Inverse.{length-block}
-
--- ---- a number, byte by byte
-
-pub little-none : (d : List ℕ) (at size x : ℕ) → Left d at (little size x) d at (little (size - 0) x)
-little-none d at size x = rw sub-zero all
-
-module _ {d₀ d : List ℕ} {at₀ at : ℕ} {s₀ : List ℕ} (size i x : ℕ) (p : Left d₀ at₀ s₀ d at (little (size - i) x)) where
-  pub little-step : {e : List ℕ} {m : ℕ} → i < size → Filled d at (x % 256 ∷ []) e m → Left d₀ at₀ s₀ e m (little (size - (i + 1)) (x / 256))
-  unfolding little
-  little-step h q = let n : size - i ≡ suc (size - (i + 1)) = omega arith in step (rw n) p q
-
-  pub little-end : size ≤ i → Filled d₀ at₀ s₀ d at
-  unfolding little
-  little-end h = let n : size - i ≡ 0 = omega arith in done (rw n) p
 
 -- ---- what has room, and what stands there
 

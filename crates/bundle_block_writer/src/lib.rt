@@ -7,14 +7,11 @@ ghost use Rattle.lent.specs.Fill.{fill, zeros, Filled};
 ghost use Rattle.bundle_block.specs.Block.{little, blockOf};
 ghost use Rattle.bundle_run.specs.Run.{runOf};
 use bundle_run::BLOCK;
+use little::U8;
+use little::U16;
+use little::U32;
 
 const PAYLOAD: usize = 500;
-
-pub const U32: usize = 4;
-
-const U16: usize = 2;
-
-const U8: usize = 1;
 
 // The blocks from `start` up to `end`, of one kind, each at the place of its number, with up to `room` bytes of what is given.
 pub fn write_run(
@@ -47,16 +44,16 @@ pub fn write_block(out: &mut [u8], at: usize, edition: u32, number: usize, kind:
     let payload_at = put_words(out, at, edition, number, kind);
     let check_at = put_payload(out, payload_at, payload);
     let check = bundle_block::check_of(&out[at..check_at]);
-    put_little(out, check_at, U32, check as usize);
+    little::put(out, check_at, U32, check as usize);
 }
 
 // Edition, number, kind and the zero byte.
 fn put_words(out: &mut [u8], at: usize, edition: u32, number: usize, kind: u8) -> usize
     ensures { λ r. ⌜ Filled (now (out .entry)) at (little 4 edition ++ little 2 number ++ little 1 kind ++ 0 ∷ []) (now (out .exit)) r ⌝ }
 {
-    let number_at = put_little(out, at, U32, edition as usize);
-    let kind_at = put_little(out, number_at, U16, number);
-    let zero_at = put_little(out, kind_at, U8, kind as usize);
+    let number_at = little::put(out, at, U32, edition as usize);
+    let kind_at = little::put(out, number_at, U16, number);
+    let zero_at = little::put(out, kind_at, U8, kind as usize);
     lent::put(out, zero_at, 0)
 }
 
@@ -68,20 +65,5 @@ fn put_payload(out: &mut [u8], at: usize, payload: &[u8]) -> usize
     let used = lent::put_all(out, at, payload);
     let end = at + PAYLOAD;
     lent::clear(&mut out[used..end], 0);
-    end
-}
-
-// A number in so many bytes, little endian.
-pub fn put_little(out: &mut [u8], at: usize, size: usize, x: usize) -> usize
-    ensures { λ r. ⌜ Filled (now (out .entry)) at (little size x) (now (out .exit)) r ⌝ }
-{
-    let mut end = at;
-    let mut rest = x;
-    let mut i = 0;
-    while i < size {
-        end = lent::put(out, end, (rest % 256) as u8);
-        rest = rest / 256;
-        i += 1;
-    }
     end
 }

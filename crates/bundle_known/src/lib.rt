@@ -85,9 +85,9 @@ fn said(bytes: &[u8]) -> Known
 {
     Known {
         begun: true,
-        edition: bundle_block::u32_at(bytes, 0),
-        text: bundle_block::u32_at(bytes, 8),
-        events: RECORD * bundle_block::u32_at(bytes, 12),
+        edition: little::u32_at(bytes, 0),
+        text: little::u32_at(bytes, 8),
+        events: RECORD * little::u32_at(bytes, 12),
         text_came: 0,
         events_came: 0,
     }

@@ -8,6 +8,7 @@ use borrow.Author.Tests.{lt-ltb, le-leb, eq-eqb}
 use lib.ListN.{length, take, drop, length-append, length-take, length-drop}
 use lib.Seq.{take-all, take-at, drop-at, take-take, take-add, drop-drop}
 use Rattle.lent.specs.Bytes.{all}
+use Rattle.little.proofs.Laws.{number-little}
 use Rattle.bundle_block.specs.declared.Verdict.{Verdict}
 use Rattle.bundle_block.specs.declared.Verdict.the-variants.{Good, Bad}
 use Rattle.bundle_block.specs.Block.{isByte, little, frontOf, blockOf, editionIn, judgeBlock}
@@ -16,7 +17,7 @@ use Rattle.bundle_read.specs.Bundle.{blocksFor, headerOf, bundleOf, text
 use Rattle.bundle_read.specs.Sizes.{mostText, mostEvents, recordSize, textRoom, eventRoom, headerUsed, headerKind, textKind, eventKind, Within}
 use Rattle.bundle_block.proofs.Block.{drop-take}
 use Rattle.bundle_read.proofs.Bundle.{Sound, sound, length-text, length-events}
-use Rattle.bundle_block.proofs.Words.{all-append, all-take, all-drop, bytes-little, number-little, number-small}
+use Rattle.bundle_block.proofs.Words.{all-append, all-take, all-drop, bytes-little, number-small}
 use Rattle.bundle_block.proofs.Inverse.{length-block, written-good, word, good-written}
 use Rattle.bundle_run.proofs.Inverse.{length-run, run-good, run-held, good-run, bytes-held}
 

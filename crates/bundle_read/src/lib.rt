@@ -173,7 +173,7 @@ pub fn judge_header(bundle: &[u8]) -> Verdict
 {
     let block = bundle_block::judge_block(
         &bundle[0..BLOCK],
-        bundle_block::u32_at(bundle, 0),
+        little::u32_at(bundle, 0),
         0,
         HEADER_KIND,
         HEADER_USED,
@@ -210,7 +210,7 @@ fn judge_text(bundle: &[u8]) -> Verdict
     let end = 1 + text_blocks(bundle);
     bundle_run::judge_run(
         &bundle[BLOCK..],
-        bundle_block::u32_at(bundle, 0),
+        little::u32_at(bundle, 0),
         TEXT_KIND,
         TEXT_ROOM,
         1,
@@ -228,7 +228,7 @@ fn judge_events(bundle: &[u8]) -> Verdict
     let from = BLOCK * start;
     bundle_run::judge_run(
         &bundle[from..],
-        bundle_block::u32_at(bundle, 0),
+        little::u32_at(bundle, 0),
         EVENT_KIND,
         EVENT_ROOM,
         start,
@@ -272,7 +272,7 @@ fn header(bundle: &[u8]) -> Answer
     Answer::Bundle {
         text: text_length(bundle),
         events: event_length(bundle),
-        edition: bundle_block::u32_at(bundle, 0),
+        edition: little::u32_at(bundle, 0),
     }
 }
 
@@ -280,14 +280,14 @@ fn text_length(bundle: &[u8]) -> usize
     requires { ⌜ 512 ≤ length (now bundle) ⌝ }
     ensures { λ r. ⌜ (r ≡ textLength (now (bundle .entry))) × (r < 4294967296) ⌝ }
 {
-    bundle_block::u32_at(bundle, 8) as usize
+    little::u32_at(bundle, 8) as usize
 }
 
 fn event_count(bundle: &[u8]) -> usize
     requires { ⌜ 512 ≤ length (now bundle) ⌝ }
     ensures { λ r. ⌜ (r ≡ eventCount (now (bundle .entry))) × (r < 4294967296) ⌝ }
 {
-    bundle_block::u32_at(bundle, 12) as usize
+    little::u32_at(bundle, 12) as usize
 }
 
 fn event_length(bundle: &[u8]) -> usize

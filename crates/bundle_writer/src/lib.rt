@@ -9,7 +9,6 @@ ghost use Rattle.bundle_run.specs.Run.{runOf};
 ghost use Rattle.bundle_read.specs.Bundle.{blocksFor, bundleOf};
 ghost use Rattle.bundle_read.specs.Sizes.{mostText, mostEvents, recordSize, textRoom, eventRoom, headerKind};
 ghost use Rattle.bundle_writer.specs.Packed.{numberOf, valueOf, rightLengths, HasPacked};
-use bundle_block_writer::U32;
 use bundle_read::EVENT_KIND;
 use bundle_read::EVENT_ROOM;
 use bundle_read::HEADER_KIND;
@@ -20,6 +19,7 @@ use bundle_read::TEXT_KIND;
 use bundle_read::TEXT_ROOM;
 use bundle_run::BLOCK;
 use event::Event;
+use little::U32;
 
 // The bundle's length, or why none was written.
 pub enum Packed {
@@ -106,8 +106,8 @@ fn write_header(out: &mut [u8], edition: u32, text: usize, events: usize)
     ensures { λ _. ⌜ now (out .exit) ≡ fill (now (out .entry)) 0 (blockOf edition 0 headerKind (little 4 text ++ little 4 (events / recordSize))) ⌝ }
 {
     let mut payload = [0u8; HEADER_USED];
-    let half = bundle_block_writer::put_little(&mut payload, 0, U32, text);
-    bundle_block_writer::put_little(&mut payload, half, U32, events / Event::SIZE);
+    let half = little::put(&mut payload, 0, U32, text);
+    little::put(&mut payload, half, U32, events / Event::SIZE);
     bundle_block_writer::write_block(out, 0, edition, 0, HEADER_KIND, &payload);
 }
 

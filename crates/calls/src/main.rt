@@ -66,30 +66,17 @@ fn is_op(op: u8) -> bool {
     }
 }
 
-fn wide(b: u8) -> usize
-    ensures { λ r. ⌜ (r ≡ b) × (r < 256) ⌝ }
-{
-    b as usize
-}
-
-// Four bytes, little endian.
-fn u32_at(s: &[u8], at: usize) -> usize
-    requires { ⌜ at + 4 ≤ length (now s) ⌝ }
-{
-    wide(s[at]) + 256 * wide(s[at + 1]) + 65536 * wide(s[at + 2]) + 16777216 * wide(s[at + 3])
-}
-
 fn read_request(header: &[u8; 32]) -> Request {
     Request {
         op: header[0],
         options: header[1],
         ending: header[2],
         names: header[3],
-        text: u32_at(header, 4),
-        events: u32_at(header, 8),
-        room: u32_at(header, 12),
-        work: u32_at(header, 16),
-        edition: bundle_block::u32_at(header, 20),
+        text: little::u32_at(header, 4) as usize,
+        events: little::u32_at(header, 8) as usize,
+        room: little::u32_at(header, 12) as usize,
+        work: little::u32_at(header, 16) as usize,
+        edition: little::u32_at(header, 20),
     }
 }
 
@@ -319,7 +306,8 @@ fn feed_parts(
     let mut at = 0;
     let mut listed = 0;
     while 4 <= lengths.len() - listed {
-        let end = at + bundle_block::least(u32_at(lengths, listed), bytes.len() - at);
+        let length = little::u32_at(lengths, listed) as usize;
+        let end = at + bundle_block::least(length, bytes.len() - at);
         reader = page::feed_bundle(reader, &bytes[at..end], text, events);
         at = end;
         listed += 4;
@@ -425,12 +413,8 @@ fn more_head() -> Head {
     }
 }
 
-// Four bytes, little endian.
 fn put_u32(head: &mut [u8], at: usize, x: usize) {
-    let second = lent::put(head, at, (x % 256) as u8);
-    let third = lent::put(head, second, (x / 256 % 256) as u8);
-    let fourth = lent::put(head, third, (x / 65536 % 256) as u8);
-    lent::put(head, fourth, (x / 16777216 % 256) as u8);
+    little::put(head, at, little::U32, x);
 }
 
 fn fill_both(one: &mut [u8], other: &mut [u8]) {

@@ -2,8 +2,8 @@
 use mathlib.Core.Path.{_≡_, refl}
 use mathlib.Core.List.{List, [], _∷_, _++_}
 use Prim.Native.Nat.{ℕ}
+use Rattle.little.specs.Little.{little, number}
 use Rattle.event.specs.declared.Event.{Event}
-use Rattle.event.specs.Little.{little, number}
 use Rattle.event.specs.Event.{eventOf, eventsOf, eventsIn, recordOf, alignmentsFrom, alignmentsOf}
 
 -- exit 3 (1..2), the last event of RULES R19.2

@@ -9,10 +9,10 @@ use lib.Bits.{bitAnd, and-mask}
 use lib.Pow.{pow-mono}
 use lib.ListN.{length, take, drop, getD, drop-of-length-le}
 use lib.Seq.{take-all, take-add, drop-drop, getD-take, getD-drop}
+use Rattle.little.specs.Little.{little, field}
+use Rattle.little.proofs.Laws.{one-byte, number-little, little-field, field-below}
 use Rattle.event.specs.declared.Event.{Event}
-use Rattle.event.specs.Little.{little, field}
 use Rattle.event.specs.Event.{eventOf, eventAt, eventsIn, eventsOf, recordOf, Fits, columnsOf, alignmentOf, alignmentsFrom, alignmentsOf}
-use Rattle.event.proofs.Little.{one-byte, number-little, little-field, field-below}
 
 -- ---- packing and decoding are inverse
 

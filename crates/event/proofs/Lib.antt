@@ -1,3 +1,2 @@
-pub mod Little
 pub mod Laws
 pub mod Examples

@@ -5,8 +5,8 @@ use Prim.Native.Nat.{ℕ, zero, suc, _+_, _*_, _/_, _%_, _^_, _<_}
 use lib.Dec.{eqb}
 use lib.ListN.{length, take, drop}
 use Rattle.lent.specs.Bytes.{oneOf}
+use Rattle.little.specs.Little.{little, field}
 use Rattle.event.specs.declared.Event.{Event}
-use Rattle.event.specs.Little.{little, field}
 
 -- kind u8, name u8, before u8, after u8, from u32, to u32, extra u64
 unfoldable pub eventOf : List ℕ → Event

@@ -2,7 +2,6 @@
 ghost use Prim.Native.Nat.{_+_, _*_, _≤_, _<_};
 ghost use mathlib.Core.Path.{_≡_};
 ghost use lib.ListN.{length};
-ghost use Rattle.event.specs.Little.{field};
 ghost use Rattle.event.specs.Event.{recordSize, countOf, eventOf, eventAt, isEnter, isLoose, columnsOf, alignmentOf};
 
 // An event's place in the list. It is never added to a byte's place.
@@ -186,9 +185,9 @@ impl Event {
         requires { ⌜ recordSize ≤ length (now bytes) ⌝ }
         ensures { λ r. ⌜ r ≡ eventOf (now (bytes .entry)) ⌝ }
     {
-        let from = u32_at(bytes, Event::FROM_AT);
-        let to = u32_at(bytes, Event::TO_AT);
-        let extra = u64_at(bytes, Event::EXTRA_AT);
+        let from = little::u32_at(bytes, Event::FROM_AT);
+        let to = little::u32_at(bytes, Event::TO_AT);
+        let extra = little::u64_at(bytes, Event::EXTRA_AT);
         Self {
             kind: bytes[Event::KIND_AT],
             name: bytes[Event::NAME_AT],
@@ -262,33 +261,4 @@ pub fn name_at(events: &[u8], i: EventIndex) -> u8
     ensures { λ r. ⌜ r ≡ eventAt (now (events .entry)) (i .0) .name ⌝ }
 {
     events[Event::SIZE * i.0 + Event::NAME_AT]
-}
-
-// Each width is made of two halves, so that one law serves all.
-fn u8_at(s: &[u8], at: usize) -> u64
-    requires { ⌜ at + 1 ≤ length (now s) ⌝ }
-    ensures { λ r. ⌜ (r ≡ field at 1 (now (s .entry))) × (r < 256) ⌝ }
-{
-    s[at] as u64
-}
-
-fn u16_at(s: &[u8], at: usize) -> u64
-    requires { ⌜ at + 2 ≤ length (now s) ⌝ }
-    ensures { λ r. ⌜ (r ≡ field at 2 (now (s .entry))) × (r < 65536) ⌝ }
-{
-    u8_at(s, at) + 256 * u8_at(s, at + 1)
-}
-
-fn u32_at(s: &[u8], at: usize) -> u64
-    requires { ⌜ at + 4 ≤ length (now s) ⌝ }
-    ensures { λ r. ⌜ (r ≡ field at 4 (now (s .entry))) × (r < 4294967296) ⌝ }
-{
-    u16_at(s, at) + 65536 * u16_at(s, at + 2)
-}
-
-fn u64_at(s: &[u8], at: usize) -> u64
-    requires { ⌜ at + 8 ≤ length (now s) ⌝ }
-    ensures { λ r. ⌜ r ≡ field at 8 (now (s .entry)) ⌝ }
-{
-    u32_at(s, at) + 4294967296 * u32_at(s, at + 4)
 }

@@ -6,7 +6,7 @@ use native.Mathlib.Nat.{pow-suc, mul-assoc, mul-comm, zero-add, suc-add, mul-zer
 use native.Mathlib.Omega.{arith}
 use lib.ListN.{length, take, drop, getD, length-drop}
 use lib.Seq.{take-nil, drop-drop, getD-drop}
-use Rattle.event.specs.Little.{little, number, field}
+use Rattle.little.specs.Little.{little, number, field}
 
 -- ---- reading
 

@@ -1,11 +1,11 @@
 -- The loop's invariant: what is left is to append the bytes of what is left of the number. Assumes nothing.
 use Prim.Native.Nat.{_-_, _≤_}
 use Rattle.lent.proofs.Laws.{Left}
-use Rattle.bundle_block.specs.Block.{little}
-use Rattle.bundle_block_writer.proofs.Block.{little-none, little-step, little-end}
+use Rattle.little.specs.Little.{little}
+use Rattle.little.proofs.Writing.{little-none, little-step, little-end}
 use borrow.Author.Needs.{needs}
-use Rattle.bundle_block_writer.proofs.put_little.Statement.{statement}
-use Rattle.bundle_block_writer.proofs.put_little.Tie as tie
+use Rattle.little.proofs.put.Statement.{statement}
+use Rattle.little.proofs.put.Tie as tie
 
 abbrev Inv-loop : tie.InvT-loop
 Inv-loop out₀ at size x end₀ rest₀ i₀ out end rest i = (i ≤ size) × Left out₀ at (little size x) out end (little (size - i) rest)
@@ -22,8 +22,8 @@ loop-again c = search (little-step, needs)
 returns : tie.Need-returns Inv-loop μ-loop
 returns c = search little-end
 
-pub put-little-spec : {M : Type 1} → statement M
-put-little-spec =
+pub put-spec : {M : Type 1} → statement M
+put-spec =
     tie.close
     (tie.spec
     Inv-loop

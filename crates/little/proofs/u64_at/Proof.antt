@@ -1,8 +1,8 @@
 -- Two halves of four bytes. Assumes nothing.
-use Rattle.event.proofs.Little.{halves}
+use Rattle.little.proofs.Laws.{halves}
 use borrow.Author.Needs.{needs}
-use Rattle.event.proofs.u64_at.Statement.{statement}
-use Rattle.event.proofs.u64_at.Tie as tie
+use Rattle.little.proofs.u64_at.Statement.{statement}
+use Rattle.little.proofs.u64_at.Tie as tie
 
 returns : tie.Need-returns
 returns c = search (halves 4 4)

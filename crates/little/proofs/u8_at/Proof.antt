@@ -1,9 +1,9 @@
 -- A byte is a field of one byte. Assumes nothing.
 use native.Mathlib.Omega.{arith}
-use Rattle.event.proofs.Little.{one-byte}
+use Rattle.little.proofs.Laws.{one-byte}
 use borrow.Author.Needs.{needs}
-use Rattle.event.proofs.u8_at.Statement.{statement}
-use Rattle.event.proofs.u8_at.Tie as tie
+use Rattle.little.proofs.u8_at.Statement.{statement}
+use Rattle.little.proofs.u8_at.Tie as tie
 
 cast-result : tie.Need-cast-result
 cast-result c = omega (arith, c .shared-slice-known .given (c .before .args .at))

@@ -1,8 +1,8 @@
 -- Two halves of one byte. Assumes nothing.
-use Rattle.event.proofs.Little.{halves}
+use Rattle.little.proofs.Laws.{halves}
 use borrow.Author.Needs.{needs}
-use Rattle.event.proofs.u16_at.Statement.{statement}
-use Rattle.event.proofs.u16_at.Tie as tie
+use Rattle.little.proofs.u16_at.Statement.{statement}
+use Rattle.little.proofs.u16_at.Tie as tie
 
 returns : tie.Need-returns
 returns c = search (halves 1 1, needs)

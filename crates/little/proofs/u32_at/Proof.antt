@@ -1,11 +1,11 @@
 -- Two halves of two bytes. Assumes nothing.
-use Rattle.bundle_block.proofs.Block.{two-halves}
+use Rattle.little.proofs.Laws.{halves}
 use borrow.Author.Needs.{needs}
-use Rattle.bundle_block.proofs.u32_at.Statement.{statement}
-use Rattle.bundle_block.proofs.u32_at.Tie as tie
+use Rattle.little.proofs.u32_at.Statement.{statement}
+use Rattle.little.proofs.u32_at.Tie as tie
 
 returns : tie.Need-returns
-returns c = search two-halves
+returns c = search (halves 2 2, needs)
 
 pub u32-at-spec : {M : Type 1} → statement M
 u32-at-spec =
