@@ -17,7 +17,7 @@ use Rattle.character_reference.specs.declared.Marker.the-variants.{Named
 use Rattle.character_reference.specs.declared.Value.{Value}
 use Rattle.character_reference.specs.declared.Value.the-variants.{Code, Broken}
 use Rattle.utf8.specs.Utf8.{charOf, replacement}
-use Rattle.character_reference.specs.Reference.{isReplaced, codeOf, areDigits, numberOf, numeralOf, namedOf, valueOf, standsFor, referenceFor, isSome, orNothing}
+use Rattle.character_reference.specs.Reference.{isReplaced, codeOf, areDigits, fromDigits, numeralOf, namedOf, valueOf, standsFor, referenceFor, isSome, orNothing}
 use Rattle.character_reference.specs.Written.{writtenOf}
 use Rattle.character_reference.proofs.Entries.{either, Brief, named-short}
 use Rattle.character_reference.proofs.Numbers.{inside}
@@ -71,8 +71,8 @@ brief-kept Broken b = tt
 value-kept : (option : Names) (marker : Marker) (s : List ℕ) → Kept (valueOf option marker s)
 unfolding valueOf numeralOf
 value-kept option Named s = brief-kept (namedOf option s) (named-short option s)
-value-kept option Decimal s = either Kept (areDigits 10 7 s) {x = Code (codeOf (numberOf 10 s))} {y = Broken} (code-kept (numberOf 10 s)) tt
-value-kept option Hexadecimal s = either Kept (areDigits 16 6 s) {x = Code (codeOf (numberOf 16 s))} {y = Broken} (code-kept (numberOf 16 s)) tt
+value-kept option Decimal s = either Kept (areDigits 10 7 s) {x = Code (codeOf (fromDigits 10 s))} {y = Broken} (code-kept (fromDigits 10 s)) tt
+value-kept option Hexadecimal s = either Kept (areDigits 16 6 s) {x = Code (codeOf (fromDigits 16 s))} {y = Broken} (code-kept (fromDigits 16 s)) tt
 
 -- ---- a value, by its marker
 

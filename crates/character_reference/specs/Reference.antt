@@ -43,11 +43,11 @@ abbrev pub numberFrom : ℕ → ℕ → List ℕ → ℕ
 numberFrom base n [] = n
 numberFrom base n (b ∷ bs) = numberFrom base (n * base + digitValue b) bs
 
-abbrev pub numberOf : ℕ → List ℕ → ℕ
-numberOf base s = numberFrom base 0 s
+abbrev pub fromDigits : ℕ → List ℕ → ℕ
+fromDigits base s = numberFrom base 0 s
 
 unfoldable pub numeralOf : ℕ → ℕ → List ℕ → Value
-numeralOf base most s = if areDigits base most s then Code (codeOf (numberOf base s)) else Broken
+numeralOf base most s = if areDigits base most s then Code (codeOf (fromDigits base s)) else Broken
 
 -- ---- names
 

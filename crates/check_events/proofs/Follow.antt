@@ -9,8 +9,8 @@ use lib.Dec.{ltb}
 use lib.ListN.{length, drop}
 use Rattle.event.specs.declared.Event.{Event}
 use Rattle.event.specs.Event.{eventAt, eventsOf}
-use Rattle.check_slices.specs.declared.Slices.{Slices}
-use Rattle.check_slices.specs.declared.Slices.the-variants.{Yes, At}
+use Rattle.check_slices.specs.declared.FirstWrong.{FirstWrong}
+use Rattle.check_slices.specs.declared.FirstWrong.the-variants.{Yes, At}
 use Rattle.check_slices.specs.First.{firstFrom}
 use Rattle.check_slices.proofs.Laws.{stops, goes-on, ends}
 use Rattle.check_events.specs.Walk.{Step, placeOf}
@@ -39,7 +39,7 @@ module _ {wrong count : ℕ} where
 
 -- ---- all events
 
-module _ {S : Type 0} (holds : S → Event → Bool) (behind : S → Event → S) (b : List ℕ) (count : ℕ) (w : Slices) where
+module _ {S : Type 0} (holds : S → Event → Bool) (behind : S → Event → S) (b : List ℕ) (count : ℕ) (w : FirstWrong) where
   -- before the event i of count: the first break is the answer, else the rest of the pass gives it
   pub record Follows (i wrong : ℕ) (s : S) : Type 0 where
     pub found : wrong < count → At wrong ≡ w

@@ -12,8 +12,8 @@ use Rattle.check_fields.specs.First.{firstBreak}
 use Rattle.check_fields.specs.Fields.{fieldsHold}
 use Rattle.check_slices.specs.declared.Seen.{Seen}
 use Rattle.check_slices.specs.declared.Counts.{Counts}
-use Rattle.check_slices.specs.declared.Slices.{Slices}
-use Rattle.check_slices.specs.declared.Slices.the-variants.{Yes, At}
+use Rattle.check_slices.specs.declared.FirstWrong.{FirstWrong}
+use Rattle.check_slices.specs.declared.FirstWrong.the-variants.{Yes, At}
 use Rattle.check_slices.specs.Slices.{seenBehind, eventHolds}
 use Rattle.check_slices.specs.Counts.{countedBehind, countHolds}
 use Rattle.check_events.specs.declared.Slicing.{Slicing}
@@ -32,7 +32,7 @@ module _ {S : Type 0} (holds : S → Event → Bool) (behind : S → Event → S
     pub breaks : count ≤ wrong → holds s e ≡ false → next ≡ i
 
 -- a pass's answer
-abbrev pub placeOf : (wrong count : ℕ) → Slices
+abbrev pub placeOf : (wrong count : ℕ) → FirstWrong
 placeOf wrong count = if ltb wrong count then At wrong else Yes
 
 -- an event that keeps the rule for slices in any text and state, which it leaves as it is

@@ -13,15 +13,15 @@ ghost use Rattle.check_events.specs.Looked.{Looks};
 use character_reference::Marker;
 use check_nesting::Moved;
 use check_slices::Counts;
+use check_slices::FirstWrong;
 use check_slices::Seen;
-use check_slices::Slices;
 use event::Event;
 use event::EventIndex;
 
 // What 5 and 6 say, and whether there may be a link, an image or a call.
 pub struct Passed {
-    pub slices: Slices,
-    pub counts: Slices,
+    pub slices: FirstWrong,
+    pub counts: FirstWrong,
     pub uses: bool,
 }
 
@@ -146,13 +146,13 @@ fn count_behind(e: Event, i: usize, count: usize, n: Counting) -> Counting
     }
 }
 
-fn answer(wrong: usize, count: usize) -> Slices
+fn answer(wrong: usize, count: usize) -> FirstWrong
     ensures { λ r. ⌜ r ≡ placeOf wrong count ⌝ }
 {
     if wrong < count {
-        return Slices::At(wrong);
+        return FirstWrong::At(wrong);
     }
-    Slices::Yes
+    FirstWrong::Yes
 }
 
 fn answers(s: Slicing, n: Counting, count: usize) -> Passed

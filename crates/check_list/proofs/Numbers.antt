@@ -12,8 +12,8 @@ use Rattle.check_nesting.specs.Pass.{nestOf}
 use Rattle.check_fields.specs.declared.Fields.{Fields}
 use Rattle.check_fields.specs.declared.Fields.the-variants as F
 use Rattle.check_fields.specs.Fields.{fieldsOf}
-use Rattle.check_slices.specs.declared.Slices.{Slices}
-use Rattle.check_slices.specs.declared.Slices.the-variants as S
+use Rattle.check_slices.specs.declared.FirstWrong.{FirstWrong}
+use Rattle.check_slices.specs.declared.FirstWrong.the-variants as S
 use Rattle.check_slices.specs.Slices.{slicesOf}
 use Rattle.check_slices.specs.Counts.{countsOf}
 use Rattle.check_labels.specs.declared.Labels.{Labels}
@@ -30,7 +30,7 @@ unique p q = p .answer ∙ sym (q .answer)
 
 -- what is made of the answer is chosen by the same rules, and so is what the stairs come to
 module _ {A : Type 0} (f : Checked → A) where
-  abbrev chosenBy : Bool → Bool → Fields → Nesting → Slices → Slices → Labels → A
+  abbrev chosenBy : Bool → Bool → Fields → Nesting → FirstWrong → FirstWrong → Labels → A
   chosenBy x y a b c d e =
       if x then f WrongLength
       else if y then f NotUtf8
@@ -49,7 +49,7 @@ module _ {A : Type 0} (f : Checked → A) where
         ]
       ]
 
-  by-stairs : (x y : Bool) (a : Fields) (b : Nesting) (c d : Slices) (e : Labels)
+  by-stairs : (x y : Bool) (a : Fields) (b : Nesting) (c d : FirstWrong) (e : Labels)
       → f (if x then WrongLength else if y then NotUtf8 else afterFields a (afterNesting b (afterSlices c (afterCounts d (afterLabels e Yes))))) ≡ chosenBy x y a b c d e
   by-stairs true y a b c d e = refl
   by-stairs false true a b c d e = refl

@@ -5,8 +5,8 @@ use mathlib.Core.List.{List}
 use Prim.Native.Nat.{ℕ}
 use borrow.Author.Tests.{not-true, not-false}
 use Rattle.utf8.specs.Utf8.{isUtf8}
-use Rattle.check_slices.specs.declared.Slices.{Slices}
-use Rattle.check_slices.specs.declared.Slices.the-variants as S
+use Rattle.check_slices.specs.declared.FirstWrong.{FirstWrong}
+use Rattle.check_slices.specs.declared.FirstWrong.the-variants as S
 use Rattle.check_slices.specs.Slices.{slicesOf}
 use Rattle.check_slices.specs.Counts.{countsOf}
 use Rattle.check_labels.specs.declared.Labels.{Labels}
@@ -57,7 +57,7 @@ module _ (text events : List ℕ) where
       unfolding fromFields fromNesting
       looked-through e = e ∙ rw (← looked .0, ← looked .1)
 
-  module _ (x : Slices) (p : x ≡ slicesOf text events) where
+  module _ (x : FirstWrong) (p : x ≡ slicesOf text events) where
     pub slices-pass : {r : Checked} → x ≡ S.Yes → r ≡ fromCounts text events → r ≡ fromSlices text events
     unfolding fromSlices
     slices-pass q e = e ∙ rw (← p, q)
@@ -66,7 +66,7 @@ module _ (text events : List ℕ) where
     unfolding fromSlices
     slices-fail i q = rw (← p, q)
 
-  module _ (x : Slices) (p : x ≡ countsOf events) where
+  module _ (x : FirstWrong) (p : x ≡ countsOf events) where
     pub counts-pass : {r : Checked} → x ≡ S.Yes → r ≡ fromLabels text events → r ≡ fromCounts text events
     unfolding fromCounts
     counts-pass q e = e ∙ rw (← p, q)

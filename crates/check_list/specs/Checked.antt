@@ -14,7 +14,7 @@ use Rattle.check_nesting.specs.Tag.{tagsOf}
 use Rattle.check_nesting.specs.Pass.{nestOf}
 use Rattle.check_fields.specs.declared.Fields.the-variants as F
 use Rattle.check_fields.specs.Fields.{fieldsOf}
-use Rattle.check_slices.specs.declared.Slices.the-variants as S
+use Rattle.check_slices.specs.declared.FirstWrong.the-variants as S
 use Rattle.check_slices.specs.Slices.{slicesOf}
 use Rattle.check_slices.specs.Counts.{countsOf}
 use Rattle.check_labels.specs.declared.Labels.the-variants as L

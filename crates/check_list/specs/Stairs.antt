@@ -11,8 +11,8 @@ use Rattle.check_nesting.specs.Pass.{nestOf}
 use Rattle.check_fields.specs.declared.Fields.{Fields}
 use Rattle.check_fields.specs.declared.Fields.the-variants as F
 use Rattle.check_fields.specs.Fields.{fieldsOf}
-use Rattle.check_slices.specs.declared.Slices.{Slices}
-use Rattle.check_slices.specs.declared.Slices.the-variants as S
+use Rattle.check_slices.specs.declared.FirstWrong.{FirstWrong}
+use Rattle.check_slices.specs.declared.FirstWrong.the-variants as S
 use Rattle.check_slices.specs.Slices.{slicesOf}
 use Rattle.check_slices.specs.Counts.{countsOf}
 use Rattle.check_labels.specs.declared.Labels.{Labels}
@@ -30,11 +30,11 @@ abbrev pub afterNesting : Nesting → Checked → Checked
 afterNesting N.Yes next = next
 afterNesting (N.At i) next = Nested (event i)
 
-abbrev pub afterSlices : Slices → Checked → Checked
+abbrev pub afterSlices : FirstWrong → Checked → Checked
 afterSlices S.Yes next = next
 afterSlices (S.At i) next = Slice (event i)
 
-abbrev pub afterCounts : Slices → Checked → Checked
+abbrev pub afterCounts : FirstWrong → Checked → Checked
 afterCounts S.Yes next = next
 afterCounts (S.At i) next = Count (event i)
 

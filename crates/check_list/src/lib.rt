@@ -5,7 +5,7 @@ ghost use Rattle.check_list.specs.Checked.{sizesHold, Checks, numberOf, 
 ghost use Rattle.check_list.specs.Stairs.{fromFields, fromSlices};
 use check_events::Passed;
 use check_labels::Labels;
-use check_slices::Slices;
+use check_slices::FirstWrong;
 use event::Event;
 use event::EventIndex;
 
@@ -98,10 +98,10 @@ fn through(text: &[u8], events: &[u8], p: Passed) -> Checked
     let slices = p.slices;
     let counts = p.counts;
     match slices {
-        Slices::At(i) => Checked::Slice(EventIndex(i)),
-        Slices::Yes => match counts {
-            Slices::At(i) => Checked::Count(EventIndex(i)),
-            Slices::Yes => {
+        FirstWrong::At(i) => Checked::Slice(EventIndex(i)),
+        FirstWrong::Yes => match counts {
+            FirstWrong::At(i) => Checked::Count(EventIndex(i)),
+            FirstWrong::Yes => {
                 if !p.uses {
                     return Checked::Yes;
                 }

@@ -14,7 +14,7 @@ use Rattle.lent.specs.Bytes.{if_then_else_}
 use Rattle.event.specs.declared.Event.{Event}
 use Rattle.event.specs.Event.{isEnter, eventsOf}
 use Rattle.check_slices.specs.declared.Counts.{Counts}
-use Rattle.check_slices.specs.declared.Slices.the-variants.{Yes, At}
+use Rattle.check_slices.specs.declared.FirstWrong.the-variants.{Yes, At}
 use Rattle.check_slices.specs.First.{firstFrom}
 use Rattle.check_slices.specs.Counts.{noneCounted, Few, countedBehind, countHolds, countsOf}
 use Rattle.check_slices.proofs.Laws.{room-for-definition, room-for-footnote, others-hold, exits-hold, one-definition, one-footnote, others-uncounted, exits-uncounted, stays-few}

@@ -30,8 +30,8 @@ use Rattle.check_fields.specs.declared.Fields.the-variants as F
 use Rattle.check_fields.specs.Fields.{fieldsOf}
 use Rattle.check_fields.proofs.Laws.{fields-yes, fields-at}
 use Rattle.check_fields.proofs.Meet.{meets}
-use Rattle.check_slices.specs.declared.Slices.{Slices}
-use Rattle.check_slices.specs.declared.Slices.the-variants as S
+use Rattle.check_slices.specs.declared.FirstWrong.{FirstWrong}
+use Rattle.check_slices.specs.declared.FirstWrong.the-variants as S
 use Rattle.check_slices.specs.Slices.{nothingSeen, seenBehind, eventHolds, slicesOf}
 use Rattle.check_slices.specs.Counts.{countsOf}
 use Rattle.check_slices.proofs.First.{holdsAt, First}
@@ -127,12 +127,12 @@ module _ (text events : List ℕ) where
           say-labels m L.Yes p = all-met (record { sizes = s; characters = c; fields = f; nests = n; slices = l; counts = m; labels = labels-meet text events p })
           say-labels m (L.At i) p = seventh s c f n l m (labels-break text events i n p)
 
-          say-counts : (a : Slices) → countsOf events ≡ a → Says text events (afterCounts a (fromLabels text events))
+          say-counts : (a : FirstWrong) → countsOf events ≡ a → Says text events (afterCounts a (fromLabels text events))
           unfolding fromLabels
           say-counts S.Yes p = say-labels (counts-meet events .0 p) (undefinedOf text events) refl
           say-counts (S.At i) p = sixth s c f n l (counts-break events i p)
 
-        say-slices : (a : Slices) → slicesOf text events ≡ a → Says text events (afterSlices a (fromCounts text events))
+        say-slices : (a : FirstWrong) → slicesOf text events ≡ a → Says text events (afterSlices a (fromCounts text events))
         unfolding fromCounts
         say-slices S.Yes p = say-counts (slices-meet p) (countsOf events) refl
         say-slices (S.At i) p = fifth s c f n (slices-break i p)

@@ -18,8 +18,8 @@ use Rattle.check_nesting.proofs.Grows.{exactly}
 use Rattle.check_fields.specs.declared.Fields.{Fields}
 use Rattle.check_fields.specs.declared.Fields.the-variants as F
 use Rattle.check_fields.specs.Fields.{fieldsOf}
-use Rattle.check_slices.specs.declared.Slices.{Slices}
-use Rattle.check_slices.specs.declared.Slices.the-variants as S
+use Rattle.check_slices.specs.declared.FirstWrong.{FirstWrong}
+use Rattle.check_slices.specs.declared.FirstWrong.the-variants as S
 use Rattle.check_slices.specs.Slices.{slicesOf}
 use Rattle.check_slices.specs.Counts.{countsOf}
 use Rattle.check_labels.specs.declared.Labels.{Labels}
@@ -56,19 +56,19 @@ module _ (text events : List ℕ) where
     nest-first m N.Yes p = absurd (m .breaks (exactly (tagsOf events) .0 p))
     nest-first m (N.At j) p = ap (λ (k : ℕ). Nested (event k)) (one-misplaced m (misplaced text events j p))
 
-    slice-next : Each events (SliceMeets events text) → (a : Slices) → slicesOf text events ≡ a → next ≡ afterSlices a next
+    slice-next : Each events (SliceMeets events text) → (a : FirstWrong) → slicesOf text events ≡ a → next ≡ afterSlices a next
     slice-next f S.Yes p = refl
     slice-next f (S.At j) p = let e = slices-break text events j p in absurd (e .breaks (f j (e .within)))
 
-    slice-first : {i : ℕ} → Earliest events (SliceMeets events text) i → (a : Slices) → slicesOf text events ≡ a → Slice (event i) ≡ afterSlices a next
+    slice-first : {i : ℕ} → Earliest events (SliceMeets events text) i → (a : FirstWrong) → slicesOf text events ≡ a → Slice (event i) ≡ afterSlices a next
     slice-first {i} e S.Yes p = absurd (e .breaks (slices-meet text events p i (e .within)))
     slice-first e (S.At j) p = ap (λ (k : ℕ). Slice (event k)) (one-earliest e (slices-break text events j p))
 
-    count-next : CountsMeet (eventsOf events) → (a : Slices) → countsOf events ≡ a → next ≡ afterCounts a next
+    count-next : CountsMeet (eventsOf events) → (a : FirstWrong) → countsOf events ≡ a → next ≡ afterCounts a next
     count-next m S.Yes p = refl
     count-next m (S.At j) p = absurd (counts-break events j p .breaks (counts-prefix (j + 1) (eventsOf events) m))
 
-    count-first : {i : ℕ} → TooMany (eventsOf events) i → (a : Slices) → countsOf events ≡ a → Count (event i) ≡ afterCounts a next
+    count-first : {i : ℕ} → TooMany (eventsOf events) i → (a : FirstWrong) → countsOf events ≡ a → Count (event i) ≡ afterCounts a next
     count-first {i} m S.Yes p = absurd (m .breaks (counts-prefix (i + 1) (eventsOf events) (counts-meet events .0 p)))
     count-first m (S.At j) p = ap (λ (k : ℕ). Count (event k)) (one-too-many m (counts-break events j p))
 

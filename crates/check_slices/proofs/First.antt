@@ -6,8 +6,8 @@ use Prim.Native.Nat.{ℕ, zero, suc, _+_, _<_}
 use native.Mathlib.Omega.{arith}
 use Rattle.lent.specs.Bytes.{if_then_else_}
 use Rattle.event.specs.declared.Event.{Event}
-use Rattle.check_slices.specs.declared.Slices.{Slices}
-use Rattle.check_slices.specs.declared.Slices.the-variants.{Yes, At}
+use Rattle.check_slices.specs.declared.FirstWrong.{FirstWrong}
+use Rattle.check_slices.specs.declared.FirstWrong.the-variants.{Yes, At}
 use Rattle.check_slices.specs.First.{firstFrom}
 
 module _ {S : Type 0} (holds : S → Event → Bool) (behind : S → Event → S) where

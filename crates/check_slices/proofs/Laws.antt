@@ -14,8 +14,8 @@ use Rattle.event.proofs.Laws.{events-next, events-end}
 use Rattle.character_reference.specs.declared.Marker.the-variants.{Named, Decimal, Hexadecimal}
 use Rattle.check_slices.specs.declared.Seen.{Seen}
 use Rattle.check_slices.specs.declared.Counts.{Counts}
-use Rattle.check_slices.specs.declared.Slices.{Slices}
-use Rattle.check_slices.specs.declared.Slices.the-variants.{Yes, At}
+use Rattle.check_slices.specs.declared.FirstWrong.{FirstWrong}
+use Rattle.check_slices.specs.declared.FirstWrong.the-variants.{Yes, At}
 use Rattle.check_slices.specs.First.{firstFrom}
 use Rattle.check_slices.specs.Slices.{nothingSeen, withSequence, withMarker, seenBehind, sliceHolds, part, eventHolds, slicesOf}
 use Rattle.check_slices.specs.Counts.{noneCounted, Few, countedBehind, countHolds, countsOf}
@@ -23,7 +23,7 @@ use Rattle.check_slices.proofs.First.{holdsAt, First, yes-all, all-yes,
 
 -- ---- a pass, from the event i on
 
-module _ {S : Type 0} (holds : S → Event → Bool) (behind : S → Event → S) (b : List ℕ) (i n : ℕ) (s : S) (w : Slices) (left : firstFrom holds behind i s (drop i (eventsOf b)) ≡ w) (l : n ≡ length b / 20) where
+module _ {S : Type 0} (holds : S → Event → Bool) (behind : S → Event → S) (b : List ℕ) (i n : ℕ) (s : S) (w : FirstWrong) (left : firstFrom holds behind i s (drop i (eventsOf b)) ≡ w) (l : n ≡ length b / 20) where
   module _ (h : i < n) (e : Event) (p : e ≡ eventAt b i) (x : Bool) (q : x ≡ holds s e) where
     at-event : firstFrom holds behind i s (e ∷ drop (i + 1) (eventsOf b)) ≡ w
     at-event = let k : i < length b / 20 = omega arith in rw (events-next b i k, ← p) at left

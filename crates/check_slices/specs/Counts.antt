@@ -7,7 +7,7 @@ use Rattle.lent.specs.Bytes.{if_then_else_}
 use Rattle.event.specs.declared.Event.{Event}
 use Rattle.event.specs.Event.{isEnter, eventsOf}
 use Rattle.check_slices.specs.declared.Counts.{Counts}
-use Rattle.check_slices.specs.declared.Slices.{Slices}
+use Rattle.check_slices.specs.declared.FirstWrong.{FirstWrong}
 use Rattle.check_slices.specs.First.{firstFrom}
 
 abbrev pub noneCounted : Counts
@@ -37,5 +37,5 @@ countHolds n e =
     else true
 
 -- yes, or the first enter that is one too many
-unfoldable pub countsOf : (events : List ℕ) → Slices
+unfoldable pub countsOf : (events : List ℕ) → FirstWrong
 countsOf events = firstFrom countHolds countedBehind 0 noneCounted (eventsOf events)

@@ -11,7 +11,7 @@ use Rattle.character_reference.specs.declared.Marker.{Marker}
 use Rattle.character_reference.specs.declared.Marker.the-variants.{Named, Decimal, Hexadecimal}
 use Rattle.character_reference.specs.Reference.{referenceOf, isSome}
 use Rattle.check_slices.specs.declared.Seen.{Seen}
-use Rattle.check_slices.specs.declared.Slices.{Slices}
+use Rattle.check_slices.specs.declared.FirstWrong.{FirstWrong}
 use Rattle.check_slices.specs.First.{firstFrom}
 
 -- ---- the rules
@@ -79,5 +79,5 @@ unfoldable pub eventHolds : (text : List ℕ) → Seen → Event → Bool
 eventHolds text seen e = isEnter e || sliceHolds seen (e .name) (part text (e .from .0) (e .to .0))
 
 -- yes, or the first exit whose slice breaks its rule
-unfoldable pub slicesOf : (text events : List ℕ) → Slices
+unfoldable pub slicesOf : (text events : List ℕ) → FirstWrong
 slicesOf text events = firstFrom (eventHolds text) seenBehind 0 nothingSeen (eventsOf events)

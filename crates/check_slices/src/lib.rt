@@ -8,7 +8,7 @@ use character_reference::Marker;
 use event::Event;
 
 // Yes, or the place of the first event that breaks the rule.
-pub enum Slices {
+pub enum FirstWrong {
     Yes,
     At(usize),
 }

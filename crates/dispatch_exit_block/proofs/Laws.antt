@@ -20,7 +20,7 @@ use Rattle.on_list.specs.Lists.{IsOrdered, LooksBack}
 use Rattle.dispatch_turns.specs.Turns.{TurnAt, Among}
 use Rattle.dispatch_turns.proofs.Turns.{seen-as}
 use Rattle.dispatch_turns.proofs.Arms.{handlerAt, arm}
-use Rattle.dispatch_exit_block.specs.Exits.{isInLine, Exits}
+use Rattle.dispatch_exit_block.specs.Exits.{isInLine, ExitsBlock}
 use Rattle.dispatch_exit_block.specs.Private.{After, Here}
 
 -- ---- views
@@ -67,16 +67,16 @@ from-links n h p =
 -- ---- a group's promise is the whole's
 
 module _ {lo hi : ℕ} {text events : List ℕ} {i : ℕ} {e : Event} {c r : Context} {captures starts out captures′ starts′ out′ : List ℕ} where
-  exited : {View : Turn → Type 0} → ((o : Options) → eventAt events i ≡ e → (t : Turn) → TurnAt text events o i t → View t) → (isInLine (e .name) ≡ false → lo ≤ e .name) → e .name ≤ hi → Among false lo hi View e c captures starts out r captures′ starts′ out′ → Exits text events i e c captures starts out r captures′ starts′ out′
+  exited : {View : Turn → Type 0} → ((o : Options) → eventAt events i ≡ e → (t : Turn) → TurnAt text events o i t → View t) → (isInLine (e .name) ≡ false → lo ≤ e .name) → e .name ≤ hi → Among false lo hi View e c captures starts out r captures′ starts′ out′ → ExitsBlock text events i e c captures starts out r captures′ starts′ out′
   exited f a b k = record { exits = λ o p h n. record { dispatches = λ quiet. seen-as (f o p) (k .among h (a n) b .dispatches quiet) } }
 
-  pub by-event : (isInLine (e .name) ≡ false → lo ≤ e .name) → e .name ≤ hi → Among false lo hi (Sees text e) e c captures starts out r captures′ starts′ out′ → Exits text events i e c captures starts out r captures′ starts′ out′
+  pub by-event : (isInLine (e .name) ≡ false → lo ≤ e .name) → e .name ≤ hi → Among false lo hi (Sees text e) e c captures starts out r captures′ starts′ out′ → ExitsBlock text events i e c captures starts out r captures′ starts′ out′
   by-event = exited (λ o p t v. record { text-is = v .text-is; event-is = v .event-is ∙ p })
 
-  pub by-place : (isInLine (e .name) ≡ false → lo ≤ e .name) → e .name ≤ hi → Among false lo hi (Here text events i e) e c captures starts out r captures′ starts′ out′ → Exits text events i e c captures starts out r captures′ starts′ out′
+  pub by-place : (isInLine (e .name) ≡ false → lo ≤ e .name) → e .name ≤ hi → Among false lo hi (Here text events i e) e c captures starts out r captures′ starts′ out′ → ExitsBlock text events i e c captures starts out r captures′ starts′ out′
   by-place = exited (λ o p t v. record { sees = record { text-is = v .text-is; event-is = v .event-is ∙ p }; after = record { before-is = v .before-is } })
 
-  pub by-name : (isInLine (e .name) ≡ false → lo ≤ e .name) → e .name ≤ hi → Among false lo hi Any e c captures starts out r captures′ starts′ out′ → Exits text events i e c captures starts out r captures′ starts′ out′
+  pub by-name : (isInLine (e .name) ≡ false → lo ≤ e .name) → e .name ≤ hi → Among false lo hi Any e c captures starts out r captures′ starts′ out′ → ExitsBlock text events i e c captures starts out r captures′ starts′ out′
   by-name = exited (λ o p t v. record {})
 
 -- an arm that takes a capture off and opens another

@@ -15,5 +15,5 @@ abbrev pub isInLine : ℕ → Bool
 isInLine n = ltb n 12 || (ltb 32 n && ltb n 45)
 
 -- the exit at an index, of any other name
-pub record Exits (text events : List ℕ) (i : ℕ) (e : Event) (c : Context) (captures starts out : List ℕ) (r : Context) (captures′ starts′ out′ : List ℕ) : Type 0 where
+pub record ExitsBlock (text events : List ℕ) (i : ℕ) (e : Event) (c : Context) (captures starts out : List ℕ) (r : Context) (captures′ starts′ out′ : List ℕ) : Type 0 where
   pub exits : (o : Options) → eventAt events i ≡ e → isEnter e ≡ false → isInLine (e .name) ≡ false → Dispatches (TurnAt text events o i) e c captures starts out r captures′ starts′ out′

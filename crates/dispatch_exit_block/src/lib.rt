@@ -6,7 +6,7 @@ ghost use Rattle.machine.specs.OnFlow.{onExitRawFlow};
 ghost use Rattle.machine.specs.OnList.{onExitListItem};
 ghost use Rattle.state_context.specs.Rel.{Any, Sees, Keeps};
 ghost use Rattle.dispatch_turns.specs.Turns.{Among};
-ghost use Rattle.dispatch_exit_block.specs.Exits.{Exits};
+ghost use Rattle.dispatch_exit_block.specs.Exits.{ExitsBlock};
 ghost use Rattle.dispatch_exit_block.specs.Private.{After, Here};
 use event::Event;
 use event::EventIndex;
@@ -133,7 +133,7 @@ pub fn on_exit(
     out: &mut [u8],
 ) -> Context
     requires { ⌜ i .0 < countOf (now events) ⌝ }
-    ensures { λ r. ⌜ Exits (now (text .entry)) (now (events .entry)) (i .0) e c (now (captures .entry)) (now (starts .entry)) (now (out .entry)) r (now (captures .exit)) (now (starts .exit)) (now (out .exit)) ⌝ }
+    ensures { λ r. ⌜ ExitsBlock (now (text .entry)) (now (events .entry)) (i .0) e c (now (captures .entry)) (now (starts .entry)) (now (out .entry)) r (now (captures .exit)) (now (starts .exit)) (now (out .exit)) ⌝ }
 {
     if e.name < Event::LIST_ITEM {
         return exit_block(c, text, e, captures, starts, out);

@@ -11,7 +11,7 @@ use Rattle.machine.specs.declared.Options.{Options}
 use Rattle.state_context.specs.declared.Context.{Context}
 use Rattle.on_inline.specs.View.{SeesWith}
 use Rattle.dispatch_turns.specs.Turns.{Among}
-use Rattle.dispatch_exit_inline.specs.Exits.{isText, Exits}
+use Rattle.dispatch_exit_inline.specs.Exits.{isText, ExitsInline}
 use Rattle.dispatch_exit_inline.specs.Group.{Here}
 use Rattle.dispatch_exit_inline.proofs.Views.{here, with-options, shown}
 
@@ -27,8 +27,8 @@ inline-names n h p =
     (omega arith, omega arith)
 
 module _ {text events : List ℕ} {o : Options} {i : ℕ} {e : Event} {c r : Context} {captures starts out captures′ starts′ out′ : List ℕ} where
-  pub low : e .name < 12 → Among false 0 11 (Here text events i e) e c captures starts out r captures′ starts′ out′ → Exits text events o i e c captures starts out r captures′ starts′ out′
+  pub low : e .name < 12 → Among false 0 11 (Here text events i e) e c captures starts out r captures′ starts′ out′ → ExitsInline text events o i e c captures starts out r captures′ starts′ out′
   low h k = record { exits = λ p x y. shown (here p) (k .among x (omega arith) (omega arith)) }
 
-  pub high : 12 ≤ e .name → Among false 33 44 (SeesWith text e o) e c captures starts out r captures′ starts′ out′ → Exits text events o i e c captures starts out r captures′ starts′ out′
+  pub high : 12 ≤ e .name → Among false 33 44 (SeesWith text e o) e c captures starts out r captures′ starts′ out′ → ExitsInline text events o i e c captures starts out r captures′ starts′ out′
   high h k = record { exits = λ p x y. shown (with-options p) (k .among x (inline-names (e .name) h y .0) (inline-names (e .name) h y .1)) }

@@ -15,5 +15,5 @@ abbrev pub isText : ℕ → Bool
 isText n = ltb n 12 || (ltb 32 n && ltb n 45)
 
 -- the exit at an index, of one of them
-pub record Exits (text events : List ℕ) (o : Options) (i : ℕ) (e : Event) (c : Context) (captures starts out : List ℕ) (r : Context) (captures′ starts′ out′ : List ℕ) : Type 0 where
+pub record ExitsInline (text events : List ℕ) (o : Options) (i : ℕ) (e : Event) (c : Context) (captures starts out : List ℕ) (r : Context) (captures′ starts′ out′ : List ℕ) : Type 0 where
   pub exits : eventAt events i ≡ e → isEnter e ≡ false → isText (e .name) ≡ true → Dispatches (TurnAt text events o i) e c captures starts out r captures′ starts′ out′

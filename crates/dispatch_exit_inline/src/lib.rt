@@ -7,7 +7,7 @@ ghost use Rattle.machine.specs.OnText.{onExitLineEnding, onExitBlankLineEnding}
 ghost use Rattle.state_context.specs.Rel.{Keeps};
 ghost use Rattle.on_inline.specs.View.{SeesWith};
 ghost use Rattle.dispatch_turns.specs.Turns.{Among};
-ghost use Rattle.dispatch_exit_inline.specs.Exits.{isText, Exits};
+ghost use Rattle.dispatch_exit_inline.specs.Exits.{isText, ExitsInline};
 ghost use Rattle.dispatch_exit_inline.specs.Group.{At, Here};
 use event::Event;
 use event::EventIndex;
@@ -131,7 +131,7 @@ pub fn on_exit(
     out: &mut [u8],
 ) -> Context
     requires { ⌜ i .0 < countOf (now events) ⌝ }
-    ensures { λ r. ⌜ Exits (now (text .entry)) (now (events .entry)) options (i .0) e c (now (captures .entry)) (now (starts .entry)) (now (out .entry)) r (now (captures .exit)) (now (starts .entry)) (now (out .exit)) ⌝ }
+    ensures { λ r. ⌜ ExitsInline (now (text .entry)) (now (events .entry)) options (i .0) e c (now (captures .entry)) (now (starts .entry)) (now (out .entry)) r (now (captures .exit)) (now (starts .entry)) (now (out .exit)) ⌝ }
 {
     if e.name < Event::PARAGRAPH {
         return exit_data(c, text, events, i, e, captures, starts, out);

@@ -22,9 +22,9 @@ use Rattle.dispatch_turns.proofs.Lifted.{lifts-turns}
 use Rattle.dispatch_enter.specs.Enters as Enters
 use Rattle.dispatch_media.specs.Enters as EntersWhole
 use Rattle.dispatch_media.proofs.Enters as EnterLaws
-use Rattle.dispatch_exit_inline.specs.Exits as ExitsText
-use Rattle.dispatch_exit_block.specs.Exits as ExitsFlow
-use Rattle.dispatch_media.specs.Exits as ExitsWhole
+use Rattle.dispatch_exit_inline.specs.Exits.{isText, ExitsInline}
+use Rattle.dispatch_exit_block.specs.Exits.{ExitsBlock}
+use Rattle.dispatch_media.specs.Exits.{exitsWhole, ExitsWhole}
 use Rattle.dispatch_media.proofs.Names as ExitNames
 use Rattle.dispatch_handle.specs.Handled.{Quietly, Wholly}
 
@@ -44,7 +44,7 @@ module _ (e : Event) {x r : Bool} (q : x ≡ isEnter e) (n : e .name ≤ 255) wh
   pub whole-enter : x ≡ true → r ≡ EntersWhole.entersWhole (e .name) → r ≡ not (isQuiet (commandFor e))
   whole-enter z p = not-not (isQuiet (commandFor e)) r (EnterLaws.quiet-is e (sym q ∙ z) n ∙ ap not (sym p))
 
-  pub whole-exit : x ≡ false → r ≡ ExitsWhole.exitsWhole (e .name) → r ≡ not (isQuiet (commandFor e))
+  pub whole-exit : x ≡ false → r ≡ exitsWhole (e .name) → r ≡ not (isQuiet (commandFor e))
   whole-exit z p = not-not (isQuiet (commandFor e)) r (ExitNames.quiet-is e (sym q ∙ z) n ∙ ap not (sym p))
 
 -- ---- the context alone
@@ -53,11 +53,11 @@ module _ {text events : List ℕ} {o : Options} {i : ℕ} {e : Event} {c r : Con
   pub quiet-enter : isEnter e ≡ true → Enters.Enters e (o .«allow_dangerous_html») c captures starts out r captures′ starts′ out′ → Quietly text events o i e c captures starts out r captures′ starts′ out′
   quiet-enter z k = record { quietly = λ y. k .enters z text events o i y refl }
 
-  module _ {l : Bool} (z : isEnter e ≡ false) (p : l ≡ ExitsText.isText (e .name)) where
-    pub quiet-text : l ≡ true → ExitsText.Exits text events o i e c captures starts out r captures′ starts′ out′ → Quietly text events o i e c captures starts out r captures′ starts′ out′
+  module _ {l : Bool} (z : isEnter e ≡ false) (p : l ≡ isText (e .name)) where
+    pub quiet-text : l ≡ true → ExitsInline text events o i e c captures starts out r captures′ starts′ out′ → Quietly text events o i e c captures starts out r captures′ starts′ out′
     quiet-text a k = record { quietly = λ y. k .exits y z (sym p ∙ a) }
 
-    pub quiet-flow : l ≡ false → ExitsFlow.Exits text events i e c captures starts out r captures′ starts′ out′ → Quietly text events o i e c captures starts out r captures′ starts′ out′
+    pub quiet-flow : l ≡ false → ExitsBlock text events i e c captures starts out r captures′ starts′ out′ → Quietly text events o i e c captures starts out r captures′ starts′ out′
     quiet-flow a k = record { quietly = λ y. k .exits o y z (sym p ∙ a) }
 
 -- ---- the whole
@@ -66,7 +66,7 @@ module _ {text : List ℕ} {o : Options} {e : Event} {b r : Whole} {x : Bool} (q
   pub wholly-enter : {work starts out starts′ : List ℕ} {t : Tables} → x ≡ true → EntersWhole.Enters e b starts r starts′ → Wholly text o e b (world work out starts t) r (world work out starts′ t)
   wholly-enter {work} {out = out} {t = t} z k = record { wholly = λ l. seen-as (λ t v. record {}) (k .enters text work out t .acts (sym q ∙ z) zero-le n l) }
 
-  pub wholly-exit : {work starts out work′ out′ : List ℕ} {t t′ : Tables} → x ≡ false → ExitsWhole.Exits text e o b work starts out t r work′ out′ t′ → Wholly text o e b (world work out starts t) r (world work′ out′ starts t′)
+  pub wholly-exit : {work starts out work′ out′ : List ℕ} {t t′ : Tables} → x ≡ false → ExitsWhole text e o b work starts out t r work′ out′ t′ → Wholly text o e b (world work out starts t) r (world work′ out′ starts t′)
   wholly-exit z k = record { wholly = λ l. k .exits .acts (sym q ∙ z) zero-le n l }
 
 -- ---- a turn

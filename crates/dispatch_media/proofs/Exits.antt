@@ -17,7 +17,7 @@ use Rattle.on_footnote.specs.Footnotes.{IsEvent, OnLabels, OnFootnotes, OnCalls
 use Rattle.dispatch_turns.specs.Loud.{world, Shows, Acts}
 use Rattle.dispatch_turns.proofs.Arms.{handlerAt}
 use Rattle.dispatch_turns.proofs.Loud.{acting}
-use Rattle.dispatch_media.specs.Exits.{Exits, ExitsSetext, ExitsMedia, ExitsFootnote}
+use Rattle.dispatch_media.specs.Exits.{ExitsWhole, ExitsSetext, ExitsMedia, ExitsFootnote}
 
 module _ {lo hi : ℕ} {text work out starts : List ℕ} {o : Options} {e : Event} {d : Command} {b r : Whole} (n : ℕ) (p : e .name ≡ n) (q : handlerAt false n ≡ d) where
   module _ {t : Tables} where
@@ -59,11 +59,11 @@ module _ {lo hi : ℕ} {text work out starts : List ℕ} {o : Options} {e : Even
 -- ---- by groups of names
 
 module _ {text work out starts : List ℕ} {e : Event} {o : Options} {b r : Whole} {definitions footnotes calls labels work′ out′ : List ℕ} where
-  pub from-setext : e .name ≤ 44 → ExitsSetext text e b work starts out r work′ out′ → Exits text e o b work starts out (tables definitions footnotes calls labels) r work′ out′ (tables definitions footnotes calls labels)
+  pub from-setext : e .name ≤ 44 → ExitsSetext text e b work starts out r work′ out′ → ExitsWhole text e o b work starts out (tables definitions footnotes calls labels) r work′ out′ (tables definitions footnotes calls labels)
   from-setext h k = record { exits = record { acts = λ x a c l. k .exits o (tables definitions footnotes calls labels) .acts x a h l } }
 
-  pub from-media : {definitions′ : List ℕ} → 45 ≤ e .name → e .name ≤ 56 → ExitsMedia text e o b work starts out definitions r work′ out′ definitions′ → Exits text e o b work starts out (tables definitions footnotes calls labels) r work′ out′ (tables definitions′ footnotes calls labels)
+  pub from-media : {definitions′ : List ℕ} → 45 ≤ e .name → e .name ≤ 56 → ExitsMedia text e o b work starts out definitions r work′ out′ definitions′ → ExitsWhole text e o b work starts out (tables definitions footnotes calls labels) r work′ out′ (tables definitions′ footnotes calls labels)
   from-media g h k = record { exits = record { acts = λ x a c l. k .exits footnotes calls labels .acts x g h l } }
 
-  pub from-footnote : {footnotes′ calls′ labels′ : List ℕ} → 57 ≤ e .name → ExitsFootnote text e b work starts out footnotes calls labels r work′ out′ footnotes′ calls′ labels′ → Exits text e o b work starts out (tables definitions footnotes calls labels) r work′ out′ (tables definitions footnotes′ calls′ labels′)
+  pub from-footnote : {footnotes′ calls′ labels′ : List ℕ} → 57 ≤ e .name → ExitsFootnote text e b work starts out footnotes calls labels r work′ out′ footnotes′ calls′ labels′ → ExitsWhole text e o b work starts out (tables definitions footnotes calls labels) r work′ out′ (tables definitions footnotes′ calls′ labels′)
   from-footnote g k = record { exits = record { acts = λ x a c l. k .exits o definitions .acts x g c l } }

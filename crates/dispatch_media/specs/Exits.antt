@@ -13,7 +13,7 @@ use Rattle.dispatch_turns.specs.Loud.{world, Shows, Acts}
 abbrev pub exitsWhole : ℕ → Bool
 exitsWhole n = ((eqb n 17 || eqb n 18) || ((ltb 44 n && ltb n 57) && not (eqb n 49))) || ((eqb n 62 || eqb n 63) || eqb n 65)
 
-pub record Exits (text : List ℕ) (e : Event) (o : Options) (b : Whole) (work starts out : List ℕ) (t : Tables) (r : Whole) (work′ out′ : List ℕ) (t′ : Tables) : Type 0 where
+pub record ExitsWhole (text : List ℕ) (e : Event) (o : Options) (b : Whole) (work starts out : List ℕ) (t : Tables) (r : Whole) (work′ out′ : List ℕ) (t′ : Tables) : Type 0 where
   pub exits : Acts false 0 255 text (Shows text o e) e b (world work out starts t) r (world work′ out′ starts t′)
 
 -- ---- by groups of names: no part of a promise

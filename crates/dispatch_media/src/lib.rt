@@ -2,7 +2,7 @@
 ghost use mathlib.Core.Path.{_≡_};
 ghost use Rattle.dispatch_media.specs.Enters.{entersWhole, Enters};
 ghost use Rattle.state_kept.specs.Kept.{tables};
-ghost use Rattle.dispatch_media.specs.Exits.{exitsWhole, Exits, ExitsSetext, ExitsMedia, ExitsFootnote};
+ghost use Rattle.dispatch_media.specs.Exits.{exitsWhole, ExitsWhole, ExitsSetext, ExitsMedia, ExitsFootnote};
 use event::Event;
 use machine::Options;
 use state_whole::Whole;
@@ -152,7 +152,7 @@ pub fn on_exit(
     calls: &mut [usize],
     labels: &mut [usize],
 ) -> Whole
-    ensures { λ r. ⌜ Exits (now (text .entry)) e options b (now (work .entry)) (now (starts .entry)) (now (out .entry)) (tables (now (definitions .entry)) (now (footnotes .entry)) (now (calls .entry)) (now (labels .entry))) r (now (work .exit)) (now (out .exit)) (tables (now (definitions .exit)) (now (footnotes .exit)) (now (calls .exit)) (now (labels .exit))) ⌝ }
+    ensures { λ r. ⌜ ExitsWhole (now (text .entry)) e options b (now (work .entry)) (now (starts .entry)) (now (out .entry)) (tables (now (definitions .entry)) (now (footnotes .entry)) (now (calls .entry)) (now (labels .entry))) r (now (work .exit)) (now (out .exit)) (tables (now (definitions .exit)) (now (footnotes .exit)) (now (calls .exit)) (now (labels .exit))) ⌝ }
 {
     if e.name < Event::LINK {
         return exit_setext(b, text, e, work, starts, out);

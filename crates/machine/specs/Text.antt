@@ -6,7 +6,7 @@ use Prim.Native.Nat.{ℕ, zero, suc, _+_, _-_, _/_, _%_}
 use lib.Dec.{eqb, ltb}
 use lib.ListN.{length, take}
 use Rattle.lent.specs.Bytes.{if_then_else_, bytes, all}
-use Rattle.character_reference.specs.Reference.{areDigits, numberOf}
+use Rattle.character_reference.specs.Reference.{areDigits, fromDigits}
 use Rattle.machine.specs.Outcome.{Outcome, stop, go}
 use Rattle.machine.specs.Buffers.{lastOr}
 
@@ -29,7 +29,7 @@ startText n = if eqb n 1 then [] else bytes " start=\"" ++ decimal n ++ bytes "\
 
 -- of an item value, 1 to 9 digits
 unfoldable pub startOf : List ℕ → Outcome (List ℕ)
-startOf b = if areDigits 10 9 b then go (startText (numberOf 10 b)) else stop
+startOf b = if areDigits 10 9 b then go (startText (fromDigits 10 b)) else stop
 
 -- 0 none, 1 left, 2 right, 3 center
 abbrev pub alignText : ℕ → List ℕ

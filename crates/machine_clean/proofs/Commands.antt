@@ -8,7 +8,7 @@ use lib.Dec.{T}
 use lib.ListN.{length, getElem?}
 use Rattle.lent.proofs.Computed.{and-left, and-right}
 use Rattle.event.specs.Event.{alignmentsOf}
-use Rattle.character_reference.specs.Reference.{areDigits, numberOf}
+use Rattle.character_reference.specs.Reference.{areDigits, fromDigits}
 use Rattle.machine.specs.Outcome.{Outcome, stop, go, _>>=_, need}
 use Rattle.machine.specs.State.{State, own}
 use Rattle.machine.specs.Set.{setTight, setLabels, setFlag, setSetext, setRank, setSeen, setFences, setMarker, setFirst, setAligns, setColumn, setDestination}
@@ -37,8 +37,8 @@ started : (b : List ℕ) → Safe Valid (startOf b)
 unfolding startOf
 started b = on (areDigits 10 9 b)
   where
-    on : (t : Bool) → Safe Valid (cond t (go (startText (numberOf 10 b))) stop)
-    on true = goes (start-valid (numberOf 10 b))
+    on : (t : Bool) → Safe Valid (cond t (go (startText (fromDigits 10 b))) stop)
+    on true = goes (start-valid (fromDigits 10 b))
     on false = stops
 
 with-setext : {s : State} {b : Option (List ℕ)} → Clean s → Maybe b → Clean (setSetext b s)

@@ -13,7 +13,7 @@ use Rattle.event.specs.declared.Event.{Event}
 use Rattle.event.specs.Event.{isEnter, eventAt, eventsOf}
 use Rattle.character_reference.specs.declared.Marker.{Marker}
 use Rattle.character_reference.specs.declared.Names.{Names}
-use Rattle.character_reference.specs.Reference.{digitValue, isDigitOf, areDigits, numberOf, referenceOf, referenceFor, isSome}
+use Rattle.character_reference.specs.Reference.{digitValue, isDigitOf, areDigits, fromDigits, referenceOf, referenceFor, isSome}
 use Rattle.character_reference.proofs.Options.{by-both}
 use Rattle.check_slices.specs.Slices.{isItemValue, isUnderline}
 use Rattle.check_rules.specs.Elements.{Forest, nil, element, Paired}
@@ -54,7 +54,7 @@ digits (b ∷ s) t = let p = both (isDigit b) (all isDigit s) t in join (isDigit
     join true y i j = j
     join false y i j = absurd i
 
-value-starts : (s : List ℕ) → isItemValue s ≡ true → startOf s ≡ go (startText (numberOf 10 s))
+value-starts : (s : List ℕ) → isItemValue s ≡ true → startOf s ≡ go (startText (fromDigits 10 s))
 unfolding isItemValue startOf
 value-starts s h =
     let p = both (between 1 9 (length s)) (all isDigit s) (is-true (between 1 9 (length s) && all isDigit s) h) in
@@ -87,7 +87,7 @@ module _ (text events : List ℕ) (meets : Meets text events) (o : Options) (p :
   pub fact-starts : e .name ≡ 26 → Fact N.starts (turnAt text o p before e es)
   fact-starts i =
       let s : isItemValue (textOf text (spanOf e)) ≡ true = rw (is-at text events meets p before e es h) at (slices-there text events meets p before e es h .value (exits 26 i)) in
-      (startText (numberOf 10 (textOf text (spanOf e))), ap (λ (q : Outcome (List ℕ)). q >>= startOf) (own-str text events meets p before e es h x) ∙ value-starts (textOf text (spanOf e)) s)
+      (startText (fromDigits 10 (textOf text (spanOf e))), ap (λ (q : Outcome (List ℕ)). q >>= startOf) (own-str text events meets p before e es h x) ∙ value-starts (textOf text (spanOf e)) s)
 
   pub fact-begins : e .name ≡ 18 → Fact N.begins (turnAt text o p before e es)
   fact-begins i =

@@ -28,7 +28,7 @@ use Rattle.state_media.specs.declared.Label.{Label}
 use Rattle.state_media.specs.declared.Label.the-variants as L
 use Rattle.state_media.specs.Links.{Linked, Closes, spanIs, labelOf}
 use Rattle.state_kept.specs.declared.Kept.{Kept}
-use Rattle.state_kept.specs.Kept.{Piece, Keeps}
+use Rattle.state_kept.specs.Kept.{Piece, InTables}
 use Rattle.state_kept.specs.Contracts.{KeepsDefinition}
 use Rattle.state_kept.proofs.Labels.{label-is}
 use Rattle.state_kept.proofs.Lists.{long-more, part-same}
@@ -124,7 +124,7 @@ keeps-at {p} {b} {text} {work} {definitions} {work′} {definitions′} {k} {l} 
           let span = span-same (x .referenceId) e (h .span-is) in
           let is = label-is text (spanIs p) (h .label) (ap (λ (a : List ℕ). strOf a (spanIs p)) (sym (v .text-is)) ∙ ap (strOf (t .text)) (sym span) ∙ h .label-there) in
           let c′ = rw (← i, ← j) at c in
-          let kept : Keeps (b .kept) text (regionAt keptAt (w .work)) (w .tables) z = keeps-same refl refl (y .kept) in
+          let kept : InTables (b .kept) text (regionAt keptAt (w .work)) (w .tables) z = keeps-same refl refl (y .kept) in
           let st = c′ .keeps new {s = z} (at-least (y .long)) kept is (destination-piece (w .work) (b .links .end) (b .links .media .destination) (m .destination) (x .destination)) (title-piece (w .work) (b .links .end) (b .links .media .title) (m .title) (x .title)) few in
           let e1 : take regionSize work′ ≡ take regionSize (w .work) = part-same 0 regionSize keptAt (w .work) work′ before-kept (st .before) in
           let e2 : regionAt heldAt work′ ≡ regionAt heldAt (w .work) = part-same regionSize regionSize keptAt (w .work) work′ below-kept (st .before) in

@@ -27,7 +27,7 @@ use Rattle.state_media.specs.Links.{MediaIs, Leads, spanIs, labelOf}
 use Rattle.state_kept.specs.Contracts.{FindsDefinition}
 use Rattle.state_kept.proofs.Labels.{label-is}
 use Rattle.state_whole.specs.declared.Whole.{Whole}
-use Rattle.state_whole.specs.Whole.{World, Built, Held, withLinks}
+use Rattle.state_whole.specs.Whole.{World, Mirrors, Held, withLinks}
 use Rattle.state_whole.proofs.Parts.{rel-alike, keeps-same}
 use Rattle.write_held.proofs.Steady.{room-in}
 use Rattle.on_definition.specs.Definitions.{Known}
@@ -35,19 +35,19 @@ use Rattle.on_definition.specs.Private.{SeeksAt, SeeksLabel, soughtOf, o
 
 module _ {text : List ℕ} {b : Whole} {w : World} {s : State} where
   -- what is known of the newest medium, where there is room
-  pub newest-is : {m : State.Media} {ms : List State.Media} → Held b → Built text b w s → s .media ≡ m ∷ ms → MediaIs (regionAt heldAt (w .work)) (b .links .end) (b .links .media) m
+  pub newest-is : {m : State.Media} {ms : List State.Media} → Held b → Mirrors text b w s → s .media ≡ m ∷ ms → MediaIs (regionAt heldAt (w .work)) (b .links .end) (b .links .media) m
   newest-is a y q = let x = y .links .newest (room-in a y) in rw q at x
 
-  pub kept-room : Known b → Built text b w s → kept s ≤ mostTotal
+  pub kept-room : Known b → Mirrors text b w s → kept s ≤ mostTotal
   kept-room a y = let e = y .kept .end in let h = a .kept in omega arith
 
   -- led where it leads already
-  pub unled : (m : State.Media) (ms : List State.Media) (d : State.Destination) → s .media ≡ m ∷ ms → m .destination ≡ d → Built text b w s → Built text b w (setMedia (setDestination d m ∷ ms) s)
+  pub unled : (m : State.Media) (ms : List State.Media) (d : State.Destination) → s .media ≡ m ∷ ms → m .destination ≡ d → Mirrors text b w s → Mirrors text b w (setMedia (setDestination d m ∷ ms) s)
   unled m ms d q i y =
       let e : setMedia (setDestination d m ∷ ms) s ≡ s = ap (λ (x : State.Destination). setMedia (setDestination x m ∷ ms) s) (sym i) ∙ ap (λ (x : List State.Media). setMedia x s) (sym q) in
       rw e y
 
-  led : {k : ℕ} {l : Links} (m : State.Media) (ms : List State.Media) → Leads k (b .links) l → s .media ≡ m ∷ ms → m .destination ≡ noDestination → Built text b w s → Built text (withLinks l b) w (setMedia (setDestination (defined k) m ∷ ms) s)
+  led : {k : ℕ} {l : Links} (m : State.Media) (ms : List State.Media) → Leads k (b .links) l → s .media ≡ m ∷ ms → m .destination ≡ noDestination → Mirrors text b w s → Mirrors text (withLinks l b) w (setMedia (setDestination (defined k) m ∷ ms) s)
   led m ms k q i y = record {
     long = y .long;
     places = y .places;
@@ -59,7 +59,7 @@ module _ {text : List ℕ} {b : Whole} {w : World} {s : State} where
 -- ---- at a slice
 
 module _ {p : Span} {b : Whole} {text definitions : List ℕ} {f : Found} (k : FindsDefinition (b .kept) text (p .from .0) (p .to .0) definitions f) where
-  found-is : (w : World) (s : State) (label : List ℕ) → w .tables .definitions ≡ definitions → Known b → Built text b w s → strOf text (spanIs p) ≡ go label → f ≡ firstSame (definitionLabels (s .kept .definitions)) label
+  found-is : (w : World) (s : State) (label : List ℕ) → w .tables .definitions ≡ definitions → Known b → Mirrors text b w s → strOf text (spanIs p) ≡ go label → f ≡ firstSame (definitionLabels (s .kept .definitions)) label
   found-is w s label i a y l = let k′ = rw (← i) at k in k′ .finds (y .kept) (kept-room a y) (label-is text (spanIs p) label l)
 
   pub seeks-nothing : f ≡ Nothing → SeeksAt p b text definitions b

@@ -24,7 +24,7 @@ use Rattle.state_media.specs.declared.Destination.the-variants as D
 use Rattle.state_media.specs.declared.Media.{Media}
 use Rattle.state_media.specs.Links.{spanIs, labelOf}
 use Rattle.state_whole.specs.declared.Whole.{Whole}
-use Rattle.state_whole.specs.Whole.{World, Built, Held, Handles, withWork}
+use Rattle.state_whole.specs.Whole.{World, Mirrors, Held, Handles, withWork}
 use Rattle.on_definition.specs.Definitions.{Known, Reads, withDefinitions}
 
 -- ---- sought
@@ -38,8 +38,8 @@ soughtOf m = orElse (m .«reference_id») (m .«label_id»)
 
 -- the newest medium leads to the definition of this slice
 pub record SeeksAt (p : Span) (b : Whole) (text definitions : List ℕ) (r : Whole) : Type 0 where
-  pub seeks : (w : World) (s : State) (m : State.Media) (ms : List State.Media) (label : List ℕ) (d : State.Destination) → w .tables .definitions ≡ definitions → Known b → Built text b w s → s .media ≡ m ∷ ms → m .destination ≡ noDestination
-      → strOf text (spanIs p) ≡ go label → definedAt (firstSame (definitionLabels (s .kept .definitions)) label) ≡ go d → Built text r w (setMedia (setDestination d m ∷ ms) s)
+  pub seeks : (w : World) (s : State) (m : State.Media) (ms : List State.Media) (label : List ℕ) (d : State.Destination) → w .tables .definitions ≡ definitions → Known b → Mirrors text b w s → s .media ≡ m ∷ ms → m .destination ≡ noDestination
+      → strOf text (spanIs p) ≡ go label → definedAt (firstSame (definitionLabels (s .kept .definitions)) label) ≡ go d → Mirrors text r w (setMedia (setDestination d m ∷ ms) s)
 
 -- where the machine goes with the label that is sought
 pub record Sought (t : Turn) (s : State) (m : State.Media) (d : State.Destination) : Type 0 where
@@ -49,8 +49,8 @@ pub record Sought (t : Turn) (s : State) (m : State.Media) (d : State.Destinatio
 
 -- of its label, where it has one
 pub record SeeksLabel (b : Whole) (text definitions : List ℕ) (r : Whole) : Type 0 where
-  pub seeks : (t : Turn) (w : World) (s : State) (m : State.Media) (ms : List State.Media) (d : State.Destination) → t .text ≡ text → w .tables .definitions ≡ definitions → Known b → Built text b w s → s .media ≡ m ∷ ms → m .destination ≡ noDestination
-      → Sought t s m d → Built text r w (setMedia (setDestination d m ∷ ms) s)
+  pub seeks : (t : Turn) (w : World) (s : State) (m : State.Media) (ms : List State.Media) (d : State.Destination) → t .text ≡ text → w .tables .definitions ≡ definitions → Known b → Mirrors text b w s → s .media ≡ m ∷ ms → m .destination ≡ noDestination
+      → Sought t s m d → Mirrors text r w (setMedia (setDestination d m ∷ ms) s)
 
 -- ---- kept
 

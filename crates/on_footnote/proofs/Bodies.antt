@@ -24,7 +24,7 @@ use Rattle.state_context.specs.Rel.{Sets}
 use Rattle.state_context.proofs.Laws.{withBuffers}
 use Rattle.state_media.specs.Links.{Linked}
 use Rattle.state_kept.specs.declared.Kept.{Kept}
-use Rattle.state_kept.specs.Kept.{Piece, Keeps}
+use Rattle.state_kept.specs.Kept.{Piece, InTables}
 use Rattle.state_kept.specs.Contracts.{KeepsFootnote}
 use Rattle.state_kept.proofs.Labels.{label-is}
 use Rattle.state_kept.proofs.Lists.{long-more, part-same}
@@ -116,7 +116,7 @@ keeps-body {b = b} {text = text} {work = work} {starts = starts} {work′ = work
         let is = label-is text (h .span) (h .label) (ap (λ (x : List ℕ). strOf x (h .span)) (sym (v .text-is)) ∙ h .label-there) in
         let long = y .long in
         let k′ = rw (← i, ← f, ← l) at k in
-        let kept : Keeps (b .kept) text (regionAt keptAt (w .work)) (w .tables) z = keeps-same refl refl (y .kept) in
+        let kept : InTables (b .kept) text (regionAt keptAt (w .work)) (w .tables) z = keeps-same refl refl (y .kept) in
         let st = k′ .keeps {s = z} (at-least long) kept (h .labels-are) is (piece-is b w (h .body) long m c) few in
         let r = uncaptured s (h .body) (h .others) (rw (← j) at drops) (h .captures-are) (at-most m (front-long (w .work) long)) (y .context) in
         let e1 : take regionSize work′ ≡ take regionSize (w .work) = part-same 0 regionSize keptAt (w .work) work′ before-kept (st .before) in

@@ -25,7 +25,7 @@ use Rattle.state_kept.proofs.Labels.{label-is}
 use Rattle.state_kept.proofs.Lists.{long-more}
 use Rattle.state_kept.proofs.Calls.{firstCall, count-new, count-long}
 use Rattle.state_whole.specs.declared.Whole.{Whole}
-use Rattle.state_whole.specs.Whole.{World, Built}
+use Rattle.state_whole.specs.Whole.{World, Mirrors}
 use Rattle.state_whole.proofs.Quiet.{pushed}
 use Rattle.state_whole.proofs.Media.{cc-go, newest-there}
 
@@ -80,7 +80,7 @@ held-low : (end n : ℕ) → end ≡ min n noRoom → end ≤ regionSize → n �
 held-low end n p h = omega arith
 
 -- what the code knows of the newest medium's slice is what the machine does
-labelled : {text : List ℕ} {b : Whole} {w : World} {m : State.Media} {ms : List State.Media} (s : State) → Built text b w s → b .links .end ≤ regionSize → s .media ≡ m ∷ ms → labelOf (b .links .media .«label_id») ≡ m .labelId
+labelled : {text : List ℕ} {b : Whole} {w : World} {m : State.Media} {ms : List State.Media} (s : State) → Mirrors text b w s → b .links .end ≤ regionSize → s .media ≡ m ∷ ms → labelOf (b .links .media .«label_id») ≡ m .labelId
 labelled {b = b} s y h p = let x = y .links .newest (held-low _ _ (y .links .end) h) in (rw p at x) .labelId
 
 pub record KnownCall (p : Span) (text : List ℕ) (s u : State) : Type 0 where
@@ -91,7 +91,7 @@ pub record KnownCall (p : Span) (text : List ℕ) (s u : State) : Type 0 where
   pub label-there : LabelIs text (p .from .0) (p .to .0) label
   pub then-is : (if s .flags .alt then counted label others s else push (textOf label (s .kept .calls)) (counted label others s)) ≡ u
 
-pub known : {text : List ℕ} {b : Whole} {w : World} {p : Span} (t : Turn) (s u : State) → b .links .media .«label_id» ≡ L.Is p → t .text ≡ text → b .links .end ≤ regionSize → Built text b w s → callNote t s ≡ go u → KnownCall p text s u
+pub known : {text : List ℕ} {b : Whole} {w : World} {p : Span} (t : Turn) (s u : State) → b .links .media .«label_id» ≡ L.Is p → t .text ≡ text → b .links .end ≤ regionSize → Mirrors text b w s → callNote t s ≡ go u → KnownCall p text s u
 known {text} {p = p} t s u e v h y q =
     let c = called t s u q in
     let x : labelOf (L.Is p) ≡ c .newest .labelId = ap labelOf (sym e) ∙ labelled s y h (c .media-are) in
@@ -100,7 +100,7 @@ known {text} {p = p} t s u e v h y q =
     let l : strOf text (spanIs p) ≡ go (c .label) = ap (λ (a : List ℕ). strOf a (spanIs p)) (sym v) ∙ ap (strOf (t .text)) i ∙ c .label-there in
     record { newest = c .newest; others = c .others; label = c .label; media-are = c .media-are; label-there = label-is text (spanIs p) (c .label) l; then-is = c .then-is }
 
-pub unlabelled : {text : List ℕ} {b : Whole} {w : World} (t : Turn) (s u : State) → b .links .media .«label_id» ≡ L.Unset → b .links .end ≤ regionSize → Built text b w s → callNote t s ≡ go u → ⊥
+pub unlabelled : {text : List ℕ} {b : Whole} {w : World} (t : Turn) (s u : State) → b .links .media .«label_id» ≡ L.Unset → b .links .end ≤ regionSize → Mirrors text b w s → callNote t s ≡ go u → ⊥
 unlabelled t s u e h y q =
     let c = called t s u q in
     let x : none ≡ some (c .span) = ap labelOf (sym e) ∙ labelled s y h (c .media-are) ∙ c .span-is in

@@ -27,11 +27,11 @@ use Rattle.state_media.specs.declared.Span.{Span}
 use Rattle.state_media.specs.declared.Label.the-variants as L
 use Rattle.state_media.specs.Links.{Closes}
 use Rattle.state_kept.specs.declared.Kept.{Kept}
-use Rattle.state_kept.specs.Kept.{Keeps, LabelIs, tables}
+use Rattle.state_kept.specs.Kept.{InTables, LabelIs, tables}
 use Rattle.state_kept.specs.Contracts.{FindsCall, CountsCall, TellsTimes}
 use Rattle.state_kept.proofs.Room.{call-index-low, index-fits, times-fit}
 use Rattle.state_whole.specs.declared.Whole.{Whole}
-use Rattle.state_whole.specs.Whole.{World, Built, Held, withContext, withLinks, withKept, withOut, withWork}
+use Rattle.state_whole.specs.Whole.{World, Mirrors, Held, withContext, withLinks, withKept, withOut, withWork}
 use Rattle.state_whole.proofs.Parts.{Alike, rel-alike, linked-same, keeps-same}
 use Rattle.state_whole.proofs.Shown.{shown}
 use Rattle.on_footnote.specs.Footnotes.{OnCalls, withCalls}
@@ -45,7 +45,7 @@ long-enough : {n : ℕ} → n ≡ workSize → regionSize ≤ n
 long-enough e = omega arith
 
 -- what is lent as it was
-same-lent : {text work out calls : List ℕ} {r : Whole} (w : World) {u : State} → w .work ≡ work → w .out ≡ out → Built text r (withCalls calls w) u → Built text r (withCalls calls (withOut out (withWork work w))) u
+same-lent : {text work out calls : List ℕ} {r : Whole} (w : World) {u : State} → w .work ≡ work → w .out ≡ out → Mirrors text r (withCalls calls w) u → Mirrors text r (withCalls calls (withOut out (withWork work w))) u
 same-lent w i j y = rw (← i, ← j) y
 
 pub no-label : {b : Whole} {text work out calls : List ℕ} → b .links .media .«label_id» ≡ L.Unset → OnCalls Held call b text work out calls b work out calls
@@ -61,12 +61,12 @@ record Counted (text : List ℕ) (index : ℕ) (r : Whole) (w : World) (label : 
   pub index-is : index ≡ callIndex label (s .kept .calls)
   pub few : index < 64
   pub there : index < length (countAt (callIndex label (s .kept .calls)) label (s .kept .calls))
-  pub built : Built text r w (counted label ms s)
+  pub built : Mirrors text r w (counted label ms s)
 
 -- then it is written
 writing : {text label work′ out′ : List ℕ} {ms : List State.Media} {index times from to : ℕ} {r : Whole} {w : World} {x : Buffers} (s : State) → Counted text index r w label ms s → TellsTimes (w .tables .calls) index times
     → WritesCall (r .context .buffers) text from to index times (w .work) (w .out) x work′ out′ → LabelIs text from to label → length work′ ≡ length (w .work)
-    → Built text (withContext (withBuffers x (r .context)) r) (withOut out′ (withWork work′ w)) (push (textOf label (s .kept .calls)) (counted label ms s))
+    → Mirrors text (withContext (withBuffers x (r .context)) r) (withOut out′ (withWork work′ w)) (push (textOf label (s .kept .calls)) (counted label ms s))
 writing {label = label} {work′ = work′} {out′ = out′} {ms = ms} {index = index} {times = times} {r = r} {w = w} {x = x} s c tells writes is n =
     let e = c .index-is in
     let cs = s .kept .calls in
@@ -80,7 +80,7 @@ by-label k e = k .calls-label e
 
 module _ {p : Span} {b : Whole} {text calls calls′ : List ℕ} {index : ℕ} {k : Kept} {l : Links}
     (finds : FindsCall (b .kept) text (p .from .0) (p .to .0) calls index) (counts : CountsCall (b .kept) index text (p .from .0) (p .to .0) calls k calls′) (closes : Closes (b .links) l) where
-  counting : (w : World) (s u : State) → w .tables .calls ≡ calls → b .links .end ≤ regionSize → fitting u ≡ true → Built text b w s → (c : KnownCall p text s u) → Counted text index (withKept k (withLinks l b)) (withCalls calls′ w) (c .label) (c .others) s
+  counting : (w : World) (s u : State) → w .tables .calls ≡ calls → b .links .end ≤ regionSize → fitting u ≡ true → Mirrors text b w s → (c : KnownCall p text s u) → Counted text index (withKept k (withLinks l b)) (withCalls calls′ w) (c .label) (c .others) s
   counting w s u h a f y c =
       let cs = s .kept .calls in
       let label = c .label in
@@ -91,7 +91,7 @@ module _ {p : Span} {b : Whole} {text calls calls′ : List ℕ} {index : ℕ} {
       let z : u .kept .calls ≡ countAt index label cs = ap (λ (x : State.Kept). x .calls) (kept-is (s .flags .alt) (textOf label cs) (counted label (c .others) s) u (c .then-is)) ∙ ap (λ (i : ℕ). countAt i label cs) (sym e) in
       let n : index < 64 = index-fits index label cs g (rw z at (fits u f .calls)) in
       let m : timesAt index cs < 0x1_0000_0000 = times-fit index label cs (rw z at (fits u f .times)) in
-      let v : Keeps k text (regionAt keptAt (w .work)) (tables (w .tables .definitions) (w .tables .footnotes) calls′ (w .tables .labels)) (setCalls (countAt (callIndex label cs) label cs) s) = rw (← e) (counts′ .counts (y .kept) (c .label-there) g n m) in
+      let v : InTables k text (regionAt keptAt (w .work)) (tables (w .tables .definitions) (w .tables .footnotes) calls′ (w .tables .labels)) (setCalls (countAt (callIndex label cs) label cs) s) = rw (← e) (counts′ .counts (y .kept) (c .label-there) g n m) in
       record {
         index-is = e;
         few = n;

@@ -10,13 +10,13 @@ use Rattle.machine.specs.Command.{Command, _▸_}
 use Rattle.machine.proofs.Outcomes.{first-goes}
 use Rattle.machine_bounded.specs.Within.{within}
 use Rattle.state_whole.specs.declared.Whole.{Whole}
-use Rattle.state_whole.specs.Whole.{World, Built, Handles, OnPage, withOut, withWork}
+use Rattle.state_whole.specs.Whole.{World, Mirrors, Handles, OnPage, withOut, withWork}
 use Rattle.write_held.proofs.Steady.{Steady, room-in, room-out}
 use Rattle.on_definition.specs.Definitions.{Known}
 use Rattle.on_definition.proofs.Seeks.{kept-room}
 use Rattle.on_media.specs.Parts.{OnShown}
 
-known-out : {text : List ℕ} {b : Whole} {w : World} {s : State} → Built text b w s → held s ≤ mostTotal → kept s ≤ mostTotal → Known b
+known-out : {text : List ℕ} {b : Whole} {w : World} {s : State} → Mirrors text b w s → held s ≤ mostTotal → kept s ≤ mostTotal → Known b
 known-out y h k = let e = y .kept .end in record { held = room-out y h; kept = omega arith }
 
 pub then-known : {text : List ℕ} {View : Turn → Type 0} {d e : Command} {b r q : Whole} {w w′ w″ : World} → Steady d → Handles text Known View d b w r w′ → Handles text Known View e r w′ q w″ → Handles text Known View (d ▸ e) b w q w″

@@ -30,7 +30,7 @@ use Rattle.state_kept.specs.Kept as Kept
 use Rattle.state_kept.specs.Kept.{column, orEmpty}
 use Rattle.state_kept.specs.Sizes.{definitionRows}
 use Rattle.state_whole.specs.declared.Whole.{Whole}
-use Rattle.state_whole.specs.Whole.{World, Built}
+use Rattle.state_whole.specs.Whole.{World, Mirrors}
 use Rattle.on_definition.specs.Definitions.{Known}
 use Rattle.on_definition.proofs.Seeks.{newest-is, kept-room}
 use Rattle.on_media.specs.Parts.{Chooses, OnShown}
@@ -98,7 +98,7 @@ defined-bytes region end i o ds m c k q = on (m .destination) k q
     on (defined n) x r = rw x (at n x r)
 
 -- under the code's options, and by what it knows of the newest
-url-same : {o : Options} {b : Whole} {image : Bool} → IsImage (b .links) image → (text : List ℕ) (w : World) (t : Turn) (s : State) (m : State.Media) (ms : List State.Media) (c : List ℕ) → Chooses o t → Built text b w s → s .media ≡ m ∷ ms → urlOf o image c ≡ urlOf (t .options) (m .image) c
+url-same : {o : Options} {b : Whole} {image : Bool} → IsImage (b .links) image → (text : List ℕ) (w : World) (t : Turn) (s : State) (m : State.Media) (ms : List State.Media) (c : List ℕ) → Chooses o t → Mirrors text b w s → s .media ≡ m ∷ ms → urlOf o image c ≡ urlOf (t .options) (m .image) c
 url-same {o} is text w t s m ms c v y q = ap (λ (x : Bool). urlOf o x c) (is .is (regionAt heldAt (w .work)) s m ms q (y .links)) ∙ ap (λ (x : Options). urlOf x (m .image) c) (sym (v .options-is))
 
 module _ {o : Options} {b : Whole} {work out definitions : List ℕ} where

@@ -22,13 +22,13 @@ use Rattle.state_context.specs.declared.Context.{Context}
 use Rattle.state_context.specs.Rel.{Any, Sets, Tells}
 use Rattle.state_media.specs.Links.{IsImage, AnyOlderImage}
 use Rattle.state_whole.specs.declared.Whole.{Whole}
-use Rattle.state_whole.specs.Whole.{World, Built, Always, Handles, Unlent, OnPage, withContext, withOut, withWork}
+use Rattle.state_whole.specs.Whole.{World, Mirrors, Always, Handles, Unlent, OnPage, withContext, withOut, withWork}
 use Rattle.state_whole.proofs.Media.{cc-go, newest-there}
 use Rattle.on_link.proofs.Lifted.{lifts-sets}
 use Rattle.on_media.specs.Parts.{OnShown}
 
 pub record Answers (q : Test) (b : Whole) (x : Bool) : Type 0 where
-  pub answers : (text : List ℕ) (w : World) (t : Turn) (s : State) (y : Bool) → Built text b w s → test q t s ≡ go y → y ≡ x
+  pub answers : (text : List ℕ) (w : World) (t : Turn) (s : State) (y : Bool) → Mirrors text b w s → test q t s ≡ go y → y ≡ x
 
 pub alt-known : {b : Whole} {x : Bool} → Tells Any (is alt) (b .context) x → Answers (is alt) b x
 alt-known a = record { answers = λ text w t s y k p. a .tells t (take regionSize (w .work)) (w .out) (w .starts) s y (record {}) (k .context) p }

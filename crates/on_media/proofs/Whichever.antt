@@ -21,7 +21,7 @@ use Rattle.state_media.specs.declared.Destination.{Destination}
 use Rattle.state_media.specs.declared.Destination.the-variants as D
 use Rattle.state_media.specs.Links.{DestinationIs}
 use Rattle.state_whole.specs.declared.Whole.{Whole}
-use Rattle.state_whole.specs.Whole.{World, Built}
+use Rattle.state_whole.specs.Whole.{World, Mirrors}
 use Rattle.on_definition.specs.Definitions.{Known}
 use Rattle.on_definition.proofs.Seeks.{newest-is}
 use Rattle.on_media.specs.Parts.{OnShown}
@@ -57,7 +57,7 @@ defined-title region end i ds (own c) ours x k q = absurd k
 defined-title region end i ds (defined n) ours x k q = rw k (need-title ds n x q)
 
 module _ {View : Turn → Type 0} {b r : Whole} {work out definitions work′ out′ : List ℕ} where
-  ours : ((text : List ℕ) (w : World) (t : Turn) (s : State) (m : State.Media) (ms : List State.Media) (x : Option (List ℕ)) → Known b → Built text b w s → s .media ≡ m ∷ ms → titleOf (s .kept .definitions) (m .destination) (m .title) ≡ go x → m .title ≡ x)
+  ours : ((text : List ℕ) (w : World) (t : Turn) (s : State) (m : State.Media) (ms : List State.Media) (x : Option (List ℕ)) → Known b → Mirrors text b w s → s .media ≡ m ∷ ms → titleOf (s .kept .definitions) (m .destination) (m .title) ≡ go x → m .title ≡ x)
       → ShowsOwnTitle b work out r work′ out′ → OnShown Known View (show title) b work out definitions r work′ out′
   ours same k = record {
     on-shown = λ text w i j f. record {

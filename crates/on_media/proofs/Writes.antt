@@ -23,7 +23,7 @@ use Rattle.regions.specs.Regions.{regionAt}
 use Rattle.state_buffers.specs.declared.Buffers.{Buffers}
 use Rattle.state_context.proofs.Laws.{withBuffers}
 use Rattle.state_whole.specs.declared.Whole.{Whole}
-use Rattle.state_whole.specs.Whole.{World, Built, OnPage, withContext, withWork, withOut}
+use Rattle.state_whole.specs.Whole.{World, Mirrors, OnPage, withContext, withWork, withOut}
 use Rattle.state_whole.proofs.Media.{cc-go}
 use Rattle.state_whole.proofs.Shown.{shown}
 use Rattle.write_held.specs.Show.{asIs, ShowsText, ShowsPiece}
@@ -82,5 +82,5 @@ unfolding push
 none-in [] s = rw append-nil
 none-in (c ∷ cs) s = rw append-nil
 
-pub unwritten : {text : List ℕ} {b : Whole} {w : World} {s : State} {work out : List ℕ} → w .work ≡ work → w .out ≡ out → Built text b w s → Built text b (withOut out (withWork work w)) (push [] s)
+pub unwritten : {text : List ℕ} {b : Whole} {w : World} {s : State} {work out : List ℕ} → w .work ≡ work → w .out ≡ out → Mirrors text b w s → Mirrors text b (withOut out (withWork work w)) (push [] s)
 unwritten {s = s} i j y = let e : push [] s ≡ s = none-in (s .captures) s in rw (e, ← i, ← j) y

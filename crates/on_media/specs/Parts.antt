@@ -6,7 +6,7 @@ use Rattle.machine.specs.declared.Options.{Options}
 use Rattle.machine.specs.Turn.{Turn}
 use Rattle.machine.specs.Command.{Command}
 use Rattle.state_whole.specs.declared.Whole.{Whole}
-use Rattle.state_whole.specs.Whole.{World, Built, Handles, withWork, withOut}
+use Rattle.state_whole.specs.Whole.{World, Mirrors, Handles, withWork, withOut}
 use Rattle.machine.specs.State.{State}
 use Rattle.machine.specs.Buffers.{push}
 
@@ -20,4 +20,4 @@ pub record OnShown (Need : Whole → Type 0) (View : Turn → Type 0) (d : Comma
 
 -- a text is written
 pub record WritesText (t : List ℕ) (b : Whole) (work out : List ℕ) (r : Whole) (work′ out′ : List ℕ) : Type 0 where
-  pub writes : (text : List ℕ) (w : World) (s : State) → w .work ≡ work → w .out ≡ out → Built text b w s → Built text r (withOut out′ (withWork work′ w)) (push t s)
+  pub writes : (text : List ℕ) (w : World) (s : State) → w .work ≡ work → w .out ≡ out → Mirrors text b w s → Mirrors text r (withOut out′ (withWork work′ w)) (push t s)

@@ -27,7 +27,7 @@ use Rattle.state_media.specs.declared.Piece.{Piece}
 use Rattle.state_media.specs.declared.Text.the-variants as T
 use Rattle.state_media.specs.Links.{PieceIs, TextIs, Releases}
 use Rattle.state_whole.specs.declared.Whole.{Whole}
-use Rattle.state_whole.specs.Whole.{World, Built, Held, OnPage, withLinks, withContext}
+use Rattle.state_whole.specs.Whole.{World, Mirrors, Held, OnPage, withLinks, withContext}
 use Rattle.state_whole.proofs.Parts.{rel-alike, keeps-same}
 use Rattle.state_whole.proofs.Media.{cc-go}
 use Rattle.state_whole.proofs.Shown.{shown}
@@ -35,10 +35,10 @@ use Rattle.write_held.specs.Show.{asIs, ShowsPiece}
 
 module _ {b : Whole} {w : World} {text : List ℕ} {s : State} where
   -- where the end of the held bytes shows room, there is room
-  pub in-room : Held b → Built text b w s → held s ≤ mostTotal
+  pub in-room : Held b → Mirrors text b w s → held s ≤ mostTotal
   in-room a y = let e = y .links .end in omega arith
 
-  unheld : {l : Links} → Releases (b .links) l → mediaSizes (s .media) ≡ 0 → Held b → Built text b w s → Built text (withLinks l b) w (setSetext none s)
+  unheld : {l : Links} → Releases (b .links) l → mediaSizes (s .media) ≡ 0 → Held b → Mirrors text b w s → Mirrors text (withLinks l b) w (setSetext none s)
   unheld k z a y = record {
     long = y .long;
     places = y .places;

@@ -17,7 +17,7 @@ use Rattle.dispatch_turns.specs.Passing.{isHere, staysInside}
 use Rattle.run_next.specs.Idle.{Idles}
 use Rattle.run_next.specs.declared.Place.{Place}
 use Rattle.run_next.specs.Reach.{wanted}
-use Rattle.run_next.specs.Walks.{Steps, Leaves, Walks, Ahead}
+use Rattle.run_next.specs.Walks.{Steps, PassesOver, Walks, Ahead}
 use Rattle.run_next.proofs.Turned.{skips, stays-so}
 
 -- ---- where an event is
@@ -70,15 +70,15 @@ no-clash : {A : Type 0} → true ≡ false → A
 no-clash z = let y : _≡_ {A = ℕ} 0 1 = cc in absurd (omega arith)
 
 module _ {first inside : Bool} (e : Event) {x : Bool} (p : x ≡ wanted first inside e) where
-  pub leaves-idle : {kind name : ℕ} {r : Bool} → x ≡ true → kind ≡ e .kind → name ≡ e .name → Idles kind name r → Leaves first inside e r
+  pub leaves-idle : {kind name : ℕ} {r : Bool} → x ≡ true → kind ≡ e .kind → name ≡ e .name → Idles kind name r → PassesOver first inside e r
   leaves-idle z k n h = record { left = λ q w. h .idles e (sym k) (sym n) q; taken = λ q. sym p ∙ z }
 
-  pub leaves-other : x ≡ false → Leaves first inside e true
+  pub leaves-other : x ≡ false → PassesOver first inside e true
   leaves-other z = record { left = λ q w. no-clash (sym w ∙ sym p ∙ z); taken = λ q. no-clash q }
 
 module _ {first : Bool} {text events : List ℕ} {o : Options} where
   module _ {b : Whole} {w : World} {inside : Bool} {i : ℕ} {r : Whole} {w′ : World} (h : i < length events / 20) (k : Steps first text events o b w inside i r w′) where
-    pub left-out : {next x : Bool} → next ≡ staysInside inside (eventAt events i) → Leaves first inside (eventAt events i) x → x ≡ true → Steps first text events o b w next (i + 1) r w′
+    pub left-out : {next x : Bool} → next ≡ staysInside inside (eventAt events i) → PassesOver first inside (eventAt events i) x → x ≡ true → Steps first text events o b w next (i + 1) r w′
     left-out m l q =
         ⊎-elim (λ z. rw m (record { reached = stays-so first o inside i h (k .reached) (l .left q z) z; long = k .long })) (λ z. rw m (record { reached = skips first o inside i h (k .reached) z; long = k .long }))
         (either (wanted first inside (eventAt events i)))
@@ -90,10 +90,10 @@ module _ {first : Bool} {events : List ℕ} where
   walks-start = record { goes = λ k. k; later = omega arith }
 
   module _ {p : Place} {inside : Bool} {i : ℕ} (k : Walks first events (p .inside) (p .at) inside i) where
-    pub walks-on : {next x : Bool} → i < length events / 20 → next ≡ staysInside inside (eventAt events i) → Leaves first inside (eventAt events i) x → x ≡ true → Walks first events (p .inside) (p .at) next (i + 1)
+    pub walks-on : {next x : Bool} → i < length events / 20 → next ≡ staysInside inside (eventAt events i) → PassesOver first inside (eventAt events i) x → x ≡ true → Walks first events (p .inside) (p .at) next (i + 1)
     walks-on h m l q = let z = k .later in record { goes = λ s. left-out h (k .goes s) m l q; later = omega arith }
 
-    pub ahead-here : {x : Bool} → Leaves first inside (eventAt events i) x → x ≡ false → Ahead first events p (record { at = i; inside = inside })
+    pub ahead-here : {x : Bool} → PassesOver first inside (eventAt events i) x → x ≡ false → Ahead first events p (record { at = i; inside = inside })
     ahead-here l q = record { walks = k; here = λ h. l .taken q }
 
     pub ahead-end : length events / 20 ≤ i → Ahead first events p (record { at = i; inside = inside })

@@ -18,7 +18,7 @@ use Rattle.machine.specs.Totals.{over}
 use Rattle.machine_bounded.specs.Within.{within, Goes, ends, turns}
 use Rattle.machine_clean.proofs.Within.{within-exec}
 use Rattle.state_whole.specs.declared.Whole.{Whole}
-use Rattle.state_whole.specs.Whole.{World, Built}
+use Rattle.state_whole.specs.Whole.{World, Mirrors}
 use Rattle.dispatch_turns.specs.Turns.{commandFor}
 use Rattle.dispatch_turns.specs.Loud.{Spare, Turned}
 use Rattle.dispatch_turns.specs.Passing.{turnsLeft, staysInside, turnAt}
@@ -51,7 +51,7 @@ goes-first (turns t {u = u} p g) = (u, p, g)
 module _ {text events : List ℕ} {o : Options} {room i : ℕ} {r q : Whole} {w′ w″ : World} (h : i < length events / 20) (k : Turned text events o i r w′ q w″) where
   -- the machine goes on, and the code with it
   goes-on : (u v : State) (ts : List Turn) → Stands text room r w′ u → Goes (turnAt text events o i ∷ ts) u v
-      → (x : State) × Built text q w″ x × (handle (turnAt text events o i) u ≡ go x) × Goes ts x v
+      → (x : State) × Mirrors text q w″ x × (handle (turnAt text events o i) u ≡ go x) × Goes ts x v
   unfolding handle
   goes-on u v ts y g =
       let t = turnAt text events o i in
@@ -72,7 +72,7 @@ module _ (definitions : Bool) {text events : List ℕ} (o : Options) {room : ℕ
 
   -- the machine's state after the turn, its run, and the code's state
   pub turned : wanted definitions inside (eventAt events i) ≡ true → {q : Whole} {w″ : World} → Turned text events o i r w′ q w″ → (rest : List Turn) (s v : State) → Stands text room b w s → Goes (before ++ rest) s v
-      → (u y : State) × Built text q w″ y × (handle (turnAt text events o i) u ≡ go y) × Goes (turnsLeft definitions text events o (staysInside inside (eventAt events i)) (i + 1) ++ rest) y v × Stands text room r w′ u
+      → (u y : State) × Mirrors text q w″ y × (handle (turnAt text events o i) u ≡ go y) × Goes (turnsLeft definitions text events o (staysInside inside (eventAt events i)) (i + 1) ++ rest) y v × Stands text room r w′ u
       × (run events room (before ++ rest) s ≡ run events room (turnAt text events o i ∷ (turnsLeft definitions text events o (staysInside inside (eventAt events i)) (i + 1) ++ rest)) u)
   turned p k rest s v y g =
       let e = left-next definitions text events o inside i h in
@@ -86,7 +86,7 @@ module _ (definitions : Bool) {text events : List ℕ} (o : Options) {room : ℕ
     (x : Reaches text events room before (turnsLeft definitions text events o inside i) b w r w′) (n : commandFor (eventAt events i) ≡ nothing) where
   idle : Turned text events o i r w′ r w′
   unfolding exec
-  idle = record { turned = rw n (record { handles = λ t s u v a y p. subst (λ z. Built text r w′ z) (same-go (within-exec nothing t s u p)) y }) }
+  idle = record { turned = rw n (record { handles = λ t s u v a y p. subst (λ z. Mirrors text r w′ z) (same-go (within-exec nothing t s u p)) y }) }
 
   -- nothing is done at it
   pub stays-so : wanted definitions inside (eventAt events i) ≡ true → Reaches text events room before (turnsLeft definitions text events o (staysInside inside (eventAt events i)) (i + 1)) b w r w′

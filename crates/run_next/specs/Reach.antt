@@ -13,7 +13,7 @@ use Rattle.machine.specs.Totals.{over}
 use Rattle.machine.specs.Run.{Answer, runFrom}
 use Rattle.machine_bounded.specs.Within.{Goes}
 use Rattle.state_whole.specs.declared.Whole.{Whole}
-use Rattle.state_whole.specs.Whole.{World, Built}
+use Rattle.state_whole.specs.Whole.{World, Mirrors}
 use Rattle.dispatch_turns.specs.Passing.{isHere}
 use Rattle.event.specs.declared.Event.{Event}
 
@@ -23,7 +23,7 @@ run events room ts s = runFrom (countOf events) (over room) ts s
 
 -- the code's state stands for the machine's, and there is room
 pub record Stands (text : List ℕ) (room : ℕ) (b : Whole) (w : World) (s : State) : Type 0 where
-  pub built : Built text b w s
+  pub built : Mirrors text b w s
   pub long : length (w .out) ≡ room
   pub roomy : over room s ≡ none
 

@@ -21,7 +21,7 @@ pub record Steps (first : Bool) (text events : List ℕ) (o : Options) (b : Whol
   pub long : length (w′ .out) ≡ length (w .out)
 
 -- nothing is to be done at an event, or it is the pass's
-pub record Leaves (first inside : Bool) (e : Event) (r : Bool) : Type 0 where
+pub record PassesOver (first inside : Bool) (e : Event) (r : Bool) : Type 0 where
   pub left : r ≡ true → wanted first inside e ≡ true → commandFor e ≡ nothing
   pub taken : r ≡ false → wanted first inside e ≡ true
 

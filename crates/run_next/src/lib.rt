@@ -6,7 +6,7 @@ ghost use mathlib.Core.Path.{_≡_};
 ghost use Rattle.event.specs.Event.{countOf, eventAt};
 ghost use Rattle.dispatch_turns.specs.Passing.{isHere, staysInside};
 ghost use Rattle.run_next.specs.Reach.{wanted};
-ghost use Rattle.run_next.specs.Walks.{Leaves, Walks, Ahead};
+ghost use Rattle.run_next.specs.Walks.{PassesOver, Walks, Ahead};
 use event::Event;
 use event::EventIndex;
 
@@ -81,7 +81,7 @@ fn is_wanted(definitions: bool, inside: bool, events: &[u8], i: EventIndex) -> b
 // Whether nothing is to be done at the event: it is not the pass's, or it has no handler.
 fn is_left(first: bool, inside: bool, events: &[u8], i: EventIndex) -> bool
     requires { ⌜ i .0 < countOf (now events) ⌝ }
-    ensures { λ r. ⌜ Leaves first inside (eventAt (now (events .entry)) (i .0)) r ⌝ }
+    ensures { λ r. ⌜ PassesOver first inside (eventAt (now (events .entry)) (i .0)) r ⌝ }
 {
     if is_wanted(first, inside, events, i) {
         return is_idle(event::kind_at(events, i), event::name_at(events, i));

@@ -17,7 +17,7 @@ use Rattle.machine_clean.specs.Clean.{Clean}
 use Rattle.machine_clean.specs.Section.{Called}
 use Rattle.state_kept.specs.Kept.{Long}
 use Rattle.state_whole.specs.declared.Whole.{Whole}
-use Rattle.state_whole.specs.Whole.{World, Built}
+use Rattle.state_whole.specs.Whole.{World, Mirrors}
 use Rattle.dispatch_turns.specs.Passing.{turnsLeft}
 use Rattle.run_next.specs.Reach.{run, Stands}
 use Rattle.run_answer.specs.declared.Rendered.{Rendered}
@@ -29,7 +29,7 @@ overOf number place = if eqb number 8 then WorkFull place else PageFull place
 
 -- before the first event, whatever is lent
 pub record Begun (fixed : Fixed) (b : Whole) : Type 0 where
-  pub begun : (text : List ℕ) (w : World) → length (w .work) ≡ workSize → length (w .starts) ≡ 64 → Long (w .tables) → Built text b w (start fixed)
+  pub begun : (text : List ℕ) (w : World) → length (w .work) ≡ workSize → length (w .starts) ≡ 64 → Long (w .tables) → Mirrors text b w (start fixed)
 
 -- the last state of a run
 pub record Last (v : State) : Type 0 where

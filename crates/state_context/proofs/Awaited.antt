@@ -23,7 +23,7 @@ use Rattle.state_context.specs.declared.Mark.{Mark}
 use Rattle.state_context.specs.declared.Mark.the-variants as M
 use Rattle.state_context.specs.declared.Context.{Context}
 use Rattle.state_context.specs.Private.{Digit}
-use Rattle.state_context.specs.Rel.{Rel, Any, Sets, Tells, Ranks, MarkIs, ForgetsMarker, numberOf, markOf, answerDigit, markDigit}
+use Rattle.state_context.specs.Rel.{Rel, Any, Sets, Tells, Ranks, MarkIs, ForgetsMarker, rankOf, markOf, answerDigit, markDigit}
 use Rattle.state_context.proofs.Plain.{stands, setting}
 use Rattle.state_context.proofs.Digits.{other, rel-waits}
 
@@ -144,7 +144,7 @@ abbrev isSet : Number → Bool
 isSet N.Unset = false
 isSet (N.Is n) = true
 
-rank-of : (x : Number) (f : Option ℕ) (y : Bool) → numberOf x ≡ f → go (has (λ n. true) f) ≡ go y → y ≡ isSet x
+rank-of : (x : Number) (f : Option ℕ) (y : Bool) → rankOf x ≡ f → go (has (λ n. true) f) ≡ go y → y ≡ isSet x
 rank-of N.Unset f y h p = let z : go false ≡ go y = rw (← h) at p in let e : false ≡ y = cc in sym e
 rank-of (N.Is n) f y h p = let z : go true ≡ go y = rw (← h) at p in let e : true ≡ y = cc in sym e
 

@@ -42,9 +42,9 @@ use Rattle.state_context.specs.declared.Context.{Context}
 
 -- ---- the parts
 
-abbrev pub numberOf : Number → Option ℕ
-numberOf N.Unset = none
-numberOf (N.Is n) = some n
+abbrev pub rankOf : Number → Option ℕ
+rankOf N.Unset = none
+rankOf (N.Is n) = some n
 
 abbrev pub answerOf : Answer → Option Bool
 answerOf A.Unset = none
@@ -90,7 +90,7 @@ markDigit (some Hexadecimal) = 3
 
 -- behind the flags, what waits; a setext heading's text stands among the held bytes
 pub record Waits (word : ℕ) (number : Number) (a : State.Waiting) : Type 0 where
-  pub rank : numberOf number ≡ a .rank
+  pub rank : rankOf number ≡ a .rank
   pub seen : digitOf 5 word ≡ answerDigit (a .seen)
   pub fences : digitOf 6 word ≡ fencesDigit (a .fences)
   pub marker : digitOf 7 word ≡ markDigit (a .marker)
@@ -213,7 +213,7 @@ pub record Tells (View : Turn → Type 0) (q : Test) (c : Context) (x : Bool) : 
 
 -- another rank waits, or none
 pub record Ranks (x : Number) (c r : Context) : Type 0 where
-  pub ranks : (captures out starts : List ℕ) (s : State) → Rel c captures out starts s → Rel r captures out starts (setRank (numberOf x) s)
+  pub ranks : (captures out starts : List ℕ) (s : State) → Rel c captures out starts s → Rel r captures out starts (setRank (rankOf x) s)
 
 -- the marker that waits
 pub record MarkIs (c : Context) (x : Mark) : Type 0 where

@@ -15,7 +15,7 @@ use Rattle.machine.specs.Set.{setCalls}
 use Rattle.machine.specs.Footnote.{countAt, timesAt}
 use Rattle.machine.specs.Totals.{kept}
 use Rattle.state_kept.specs.declared.Kept.{Kept}
-use Rattle.state_kept.specs.Kept.{column, LabelIs, Calls, tables, Keeps}
+use Rattle.state_kept.specs.Kept.{column, LabelIs, Calls, tables, InTables}
 use Rattle.state_kept.specs.Contracts.{CountsCall, TellsTimes}
 use Rattle.state_kept.specs.Private.{setRow, SetsRow}
 use Rattle.state_kept.proofs.Lists.{at-index, index-low, one-more, long-more}
@@ -27,8 +27,8 @@ use Rattle.state_kept.specs.Sizes.{noteRows, callWords}
 abbrev pub withCalls : ℕ → Kept → Kept
 withCalls n k = record { end = k .end; definitions = k .definitions; footnotes = k .footnotes; calls = n; labels = k .labels }
 
-calls-set : {k : Kept} {text region d f calls l : List ℕ} {s : State} (calls′ : List ℕ) {cs : List Call} {n : ℕ} → length calls′ ≡ callWords → Calls text calls′ n cs → Keeps k text region (tables d f calls l) s
-    → Keeps (withCalls n k) text region (tables d f calls′ l) (setCalls cs s)
+calls-set : {k : Kept} {text region d f calls l : List ℕ} {s : State} (calls′ : List ℕ) {cs : List Call} {n : ℕ} → length calls′ ≡ callWords → Calls text calls′ n cs → InTables k text region (tables d f calls l) s
+    → InTables (withCalls n k) text region (tables d f calls′ l) (setCalls cs s)
 unfolding kept
 calls-set calls′ e c t = record {
   long = record { definitions = t .long .definitions; footnotes = t .long .footnotes; calls = e; labels = t .long .labels };

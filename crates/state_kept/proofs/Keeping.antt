@@ -12,7 +12,7 @@ use Rattle.regions.specs.Regions.{regionAt, Carries}
 use Rattle.machine.specs.State.{State, Span, Footnote}
 use Rattle.machine.specs.Totals.{kept, mostTotal}
 use Rattle.state_kept.specs.declared.Kept.{Kept}
-use Rattle.state_kept.specs.Kept.{column, LabelIs, Opened, tables, Keeps}
+use Rattle.state_kept.specs.Kept.{column, LabelIs, Opened, tables, InTables}
 use Rattle.state_kept.specs.Contracts.{KeepsFootnote}
 use Rattle.state_kept.specs.Private.{SetsRow}
 use Rattle.state_kept.proofs.Rows.{long-row}
@@ -22,7 +22,7 @@ use Rattle.state_kept.proofs.Stays.{definitions-stay, footnotes-more}
 use Rattle.state_kept.specs.Sizes.{noteRows}
 
 -- where the end is in the region it is the total
-pub low : {k : Kept} {text region d f c l : List ℕ} {s : State} → Keeps k text region (tables d f c l) s → k .end ≤ regionSize → kept s ≤ mostTotal
+pub low : {k : Kept} {text region d f c l : List ℕ} {s : State} → InTables k text region (tables d f c l) s → k .end ≤ regionSize → kept s ≤ mostTotal
 low t h = omega (arith, t .end)
 
 closed : {table : List ℕ} {count : ℕ} {p : Span} {ps : List Span} → Opened table count (p ∷ ps) → Opened table (count - 1) ps

@@ -12,7 +12,7 @@ use Rattle.machine.specs.State.{State, Definition, Footnote, Call}
 use Rattle.machine.specs.Footnote.{callLabels}
 use Rattle.machine.specs.Totals.{kept, mostTotal}
 use Rattle.state_kept.specs.declared.Kept.{Kept}
-use Rattle.state_kept.specs.Kept.{column, LabelIs, Labels, Piece, DefinitionIs, tables, Keeps}
+use Rattle.state_kept.specs.Kept.{column, LabelIs, Labels, Piece, DefinitionIs, tables, InTables}
 use Rattle.state_kept.proofs.Lists.{index-low}
 use Rattle.state_kept.specs.Sizes.{noteRows}
 
@@ -49,7 +49,7 @@ call-label-at (x ∷ cs) (suc i) c p = call-label-at cs i c p
 
 -- ---- rows
 
-module _ {k : Kept} {text region d f c l : List ℕ} {s : State} (t : Keeps k text region (tables d f c l) s) where
+module _ {k : Kept} {text region d f c l : List ℕ} {s : State} (t : InTables k text region (tables d f c l) s) where
   pub call-label : (i : ℕ) (x : Call) → getElem? (s .kept .calls) i ≡ some x → LabelIs text (getD (column noteRows 0 c) i 0) (getD (column noteRows 1 c) i 0) (x .label)
   call-label i x p = label-at i (x .label) (t .calls .labels) (call-label-at (s .kept .calls) i x p)
 

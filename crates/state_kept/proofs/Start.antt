@@ -14,7 +14,7 @@ use Rattle.machine.specs.State as Machine
 use Rattle.machine.specs.State.{State, start}
 use Rattle.machine.specs.Totals.{definitionSizes, footnoteSizes, kept}
 use Rattle.state_kept.specs.declared.Kept.{Kept}
-use Rattle.state_kept.specs.Kept.{Labels, Piece, Tables, Long, Keeps}
+use Rattle.state_kept.specs.Kept.{Labels, Piece, Tables, Long, InTables}
 use Rattle.state_kept.proofs.Lists.{index-low, part-before}
 
 abbrev pub nothing : Kept
@@ -30,7 +30,7 @@ no-labels text from to = record {
 no-signs : (firsts seconds : List ℕ) → Signs firsts seconds []
 no-signs firsts seconds = record { signs = λ k h. absurd (omega arith) }
 
-pub keeps-start : (fixed : Fixed) (text region : List ℕ) (t : Tables) → Long t → Keeps nothing text region t (start fixed)
+pub keeps-start : (fixed : Fixed) (text region : List ℕ) (t : Tables) → Long t → InTables nothing text region t (start fixed)
 unfolding start kept
 keeps-start fixed text region t h = record {
   long = h;
@@ -45,7 +45,7 @@ same-total : (s u : State) → u .kept ≡ s .kept → kept u ≡ kept s
 unfolding kept
 same-total s u e = ap (λ (x : Machine.Kept). definitionSizes (x .definitions) + footnoteSizes (x .footnotes)) e
 
-pub keeps-same : {k : Kept} {text region : List ℕ} {t : Tables} {s : State} (u : State) → u .kept ≡ s .kept → u .labels ≡ s .labels → Keeps k text region t s → Keeps k text region t u
+pub keeps-same : {k : Kept} {text region : List ℕ} {t : Tables} {s : State} (u : State) → u .kept ≡ s .kept → u .labels ≡ s .labels → InTables k text region t s → InTables k text region t u
 keeps-same {s = s} u e i h =
     let x = same-total s u e in
     record {

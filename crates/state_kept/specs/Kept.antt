@@ -113,7 +113,7 @@ pub record Long (t : Tables) : Type 0 where
   pub labels : length (t .labels) ≡ labelWords
 
 -- Where the kept bytes have no room, the end says so, and no more is known.
-pub record Keeps (k : Kept) (text region : List ℕ) (t : Tables) (s : State) : Type 0 where
+pub record InTables (k : Kept) (text region : List ℕ) (t : Tables) (s : State) : Type 0 where
   pub long : Long t
   pub end : k .end ≡ min (kept s) noRoom
   pub definitions : kept s ≤ mostTotal → Definitions text (t .definitions) region (k .end) (k .definitions) (s .kept .definitions)

@@ -12,7 +12,7 @@ use Rattle.state_buffers.specs.Stand.{flat}
 use Rattle.machine.specs.State.{State}
 use Rattle.machine.specs.Totals.{sizes, captured, held, kept, over, mostTotal}
 use Rattle.state_whole.specs.declared.Whole.{Whole}
-use Rattle.state_whole.specs.Whole.{World, Built}
+use Rattle.state_whole.specs.Whole.{World, Mirrors}
 use Rattle.state_whole.proofs.Parts.{front-long}
 use Rattle.state_whole.specs.Lacking.{numberOr, Lacks}
 
@@ -27,7 +27,7 @@ pub record Places (b : Whole) (room : ℕ) (s : State) : Type 0 where
   pub kept-is : b .kept .end ≡ min (kept s) noRoom
   pub page : b .context .buffers .page ≡ min (length (s .page)) (room + 1)
 
-pub placed : (text : List ℕ) (b : Whole) (w : World) (s : State) (room : ℕ) → length (w .out) ≡ room → Built text b w s → Places b room s
+pub placed : (text : List ℕ) (b : Whole) (w : World) (s : State) (room : ℕ) → length (w .out) ≡ room → Mirrors text b w s → Places b room s
 unfolding captured
 placed text b w s room h y =
     let n = front-long (w .work) (y .long) in

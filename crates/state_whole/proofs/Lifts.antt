@@ -18,15 +18,15 @@ use Rattle.state_context.specs.declared.Context.{Context}
 use Rattle.state_context.specs.Rel.{Rel, Any, Keeps, Takes, Opens, Sets, Begins, Ends}
 use Rattle.state_whole.specs.declared.Whole.{Whole}
 use Rattle.state_whole.specs.Quiet.{isQuiet, Rests}
-use Rattle.state_whole.specs.Whole.{World, Built, Always, Roomy, Handles, withContext, withStarts, withBytes}
+use Rattle.state_whole.specs.Whole.{World, Mirrors, Always, Roomy, Handles, withContext, withStarts, withBytes}
 use Rattle.state_whole.proofs.Quiet.{rests}
 use Rattle.state_whole.proofs.Parts.{linked-same, keeps-same, front-long, front-is, behind-is, as-long}
 
 -- ---- the context alone changes, and the captures, the page and the starts with it
 
 -- the bytes behind the captures stay
-pub kept-on : {text : List ℕ} (d : Command) {b : Whole} {w : World} {x : Context} → isQuiet d ≡ true → {captures out starts : List ℕ} → length captures ≡ regionSize → length starts ≡ 64 → (t : Turn) (s u : State) → Built text b w s → within d t s ≡ go u → Rel x captures out starts u
-    → Built text (withContext x b) (withStarts starts (withBytes captures out w)) u
+pub kept-on : {text : List ℕ} (d : Command) {b : Whole} {w : World} {x : Context} → isQuiet d ≡ true → {captures out starts : List ℕ} → length captures ≡ regionSize → length starts ≡ 64 → (t : Turn) (s u : State) → Mirrors text b w s → within d t s ≡ go u → Rel x captures out starts u
+    → Mirrors text (withContext x b) (withStarts starts (withBytes captures out w)) u
 kept-on d {w = w} q {captures} {out} {starts} l n t s u y p r =
     let e = rests d q t s .leaves u p in
     let f1 = behind-is captures (w .work) l 0 in

@@ -34,9 +34,9 @@ use Rattle.state_context.specs.Rel.{Rel, Any, Sees}
 use Rattle.state_context.proofs.Laws.{withBuffers}
 use Rattle.state_media.specs.declared.Links.{Links}
 use Rattle.state_media.specs.Links.{Linked, Opens, Closes, Identifies, Empties, Stores, Around}
-use Rattle.state_kept.specs.Kept.{Keeps}
+use Rattle.state_kept.specs.Kept.{InTables}
 use Rattle.state_whole.specs.declared.Whole.{Whole}
-use Rattle.state_whole.specs.Whole.{World, Built, Always, Held, Roomy, Handles, Unlent, OnWork, withLinks, withContext, withWork}
+use Rattle.state_whole.specs.Whole.{World, Mirrors, Always, Held, Roomy, Handles, Unlent, OnWork, withLinks, withContext, withWork}
 use Rattle.state_whole.proofs.Parts.{Alike, rel-alike, linked-same, keeps-same, front-long}
 
 pub cc-go : {A : Type 0} {a b : A} → go a ≡ go b → a ≡ b
@@ -56,7 +56,7 @@ alike-media x s = record { page = refl; captures = refl; flags = refl; rank = re
 
 module _ {text : List ℕ} {b : Whole} {w : World} {l : Links} where
   -- the open media alone change
-  relinked : (x : List State.Media) (s : State) → Built text b w s → Linked l (regionAt heldAt (w .work)) (setMedia x s) → Built text (withLinks l b) w (setMedia x s)
+  relinked : (x : List State.Media) (s : State) → Mirrors text b w s → Linked l (regionAt heldAt (w .work)) (setMedia x s) → Mirrors text (withLinks l b) w (setMedia x s)
   relinked x s y k = record { long = y .long; places = y .places; context = rel-alike (alike-media x s) (y .context); links = k; kept = keeps-same refl refl (y .kept) }
 
 module _ {View : Turn → Type 0} {b : Whole} {l : Links} where
@@ -125,7 +125,7 @@ pub record Captured (b : Whole) (w : World) (c : List ℕ) : Type 0 where
   pub bytes : take (b .context .buffers .end - b .context .buffers .start) (drop (b .context .buffers .start) (w .work)) ≡ c
   pub ordered : b .context .buffers .start ≤ b .context .buffers .end
 
-pub captured : (text : List ℕ) (b : Whole) (w : World) (s : State) (c : List ℕ) (cs : List (List ℕ)) → s .captures ≡ c ∷ cs → b .context .buffers .end ≤ regionSize → Built text b w s → Captured b w c
+pub captured : (text : List ℕ) (b : Whole) (w : World) (s : State) (c : List ℕ) (cs : List (List ℕ)) → s .captures ≡ c ∷ cs → b .context .buffers .end ≤ regionSize → Mirrors text b w s → Captured b w c
 captured text b w s c cs q l y =
     let x = y .context .stand in
     let n = front-long (w .work) (y .long) in
@@ -166,7 +166,7 @@ stores {b = b} {work = work} {starts = starts} {work′ = work′} {part = part}
           places = y .places;
           context = rel-alike (alike-media (withPart part (f .0) (h .0) ∷ h .1) (setCaptures (f .1) s)) (rw (st .1 .before) r);
           links = linked-same refl refl (rw (c .bytes) at (st .0));
-          kept = (let e : Keeps (b .kept) text (regionAt keptAt work′) (w .tables) s = rw (st .1 .behind) (y .kept) in keeps-same refl refl e);
+          kept = (let e : InTables (b .kept) text (regionAt keptAt work′) (w .tables) s = rw (st .1 .behind) (y .kept) in keeps-same refl refl e);
         });
   };
 }

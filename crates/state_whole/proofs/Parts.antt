@@ -15,7 +15,7 @@ use Rattle.state_context.proofs.Plain.{stands}
 use Rattle.state_media.specs.declared.Links.{Links}
 use Rattle.state_media.specs.Links.{Linked, OthersBare, NewestIs, TextIs, imagesOf}
 use Rattle.state_kept.specs.declared.Kept.{Kept}
-use Rattle.state_kept.specs.Kept.{Tables, Keeps}
+use Rattle.state_kept.specs.Kept.{Tables, InTables}
 use Rattle.state_whole.specs.Quiet.{Rests}
 
 -- ---- the context
@@ -69,7 +69,7 @@ kept-is : (s u : State) → u .kept ≡ s .kept → kept u ≡ kept s
 unfolding kept
 kept-is s u p = rw p
 
-pub keeps-same : {k : Kept} {text region : List ℕ} {t : Tables} {s u : State} → u .kept ≡ s .kept → u .labels ≡ s .labels → Keeps k text region t s → Keeps k text region t u
+pub keeps-same : {k : Kept} {text region : List ℕ} {t : Tables} {s u : State} → u .kept ≡ s .kept → u .labels ≡ s .labels → InTables k text region t s → InTables k text region t u
 keeps-same {s = s} {u = u} p q x =
     let h = kept-is s u p in
     record {

@@ -35,9 +35,9 @@ use Rattle.state_media.specs.declared.Piece.{Piece}
 use Rattle.state_media.specs.declared.Text.{Text}
 use Rattle.state_media.specs.declared.Text.the-variants as T
 use Rattle.state_media.specs.Links.{Linked, PieceIs, TextIs, Holds, Releases, AnyOlderImage}
-use Rattle.state_kept.specs.Kept.{Keeps}
+use Rattle.state_kept.specs.Kept.{InTables}
 use Rattle.state_whole.specs.declared.Whole.{Whole}
-use Rattle.state_whole.specs.Whole.{World, Built, Always, Held, Roomy, Handles, Unlent, OnWork, OnPage, withLinks, withContext, withWork, withOut}
+use Rattle.state_whole.specs.Whole.{World, Mirrors, Always, Held, Roomy, Handles, Unlent, OnWork, OnPage, withLinks, withContext, withWork, withOut}
 use Rattle.state_whole.proofs.Quiet.{pushed}
 use Rattle.state_whole.proofs.Parts.{Alike, rel-alike, linked-same, keeps-same, front-long}
 use Rattle.state_whole.proofs.Media.{cc-go, newest-there, capture-there, captured, uncaptured}
@@ -54,13 +54,13 @@ pub record Shows (t : List ℕ) (b : Buffers) (work out : List ℕ) (x : Buffers
   pub behind : drop regionSize work′ ≡ drop regionSize work
   pub long : length work′ ≡ length work
 
-pub shown : {text t : List ℕ} {b : Whole} {w : World} {x : Buffers} {work′ out′ : List ℕ} (s : State) → Shows t (b .context .buffers) (w .work) (w .out) x work′ out′ → Built text b w s
-    → Built text (withContext (withBuffers x (b .context)) b) (withOut out′ (withWork work′ w)) (push t s)
+pub shown : {text t : List ℕ} {b : Whole} {w : World} {x : Buffers} {work′ out′ : List ℕ} (s : State) → Shows t (b .context .buffers) (w .work) (w .out) x work′ out′ → Mirrors text b w s
+    → Mirrors text (withContext (withBuffers x (b .context)) b) (withOut out′ (withWork work′ w)) (push t s)
 shown {text} {t} {b} {w} {x} {work′} {out′} s k y =
     let e = pushed t s in
     let f : drop keptAt work′ ≡ drop keptAt (w .work) = sym (drop-drop regionSize regionSize work′) ∙ ap (drop regionSize) (k .behind) ∙ drop-drop regionSize regionSize (w .work) in
     let l : Linked (b .links) (regionAt heldAt work′) s = rw (k .behind) (y .links) in
-    let m : Keeps (b .kept) text (regionAt keptAt work′) (w .tables) s = rw f (y .kept) in
+    let m : InTables (b .kept) text (regionAt keptAt work′) (w .tables) s = rw f (y .kept) in
     record {
       long = k .long ∙ y .long;
       places = y .places;
@@ -96,7 +96,7 @@ holds {b = b} {work = work} {starts = starts} {work′ = work′} {l = l} k drop
           places = y .places;
           context = rel-alike (alike-setext (some (f .0)) (setCaptures (f .1) s)) (rw (st .1 .before) r);
           links = linked-same refl refl (rw (c .bytes) at (st .0));
-          kept = (let e : Keeps (b .kept) text (regionAt keptAt work′) (w .tables) s = rw (st .1 .behind) (y .kept) in keeps-same refl refl e);
+          kept = (let e : InTables (b .kept) text (regionAt keptAt work′) (w .tables) s = rw (st .1 .behind) (y .kept) in keeps-same refl refl e);
         });
   };
 }

@@ -15,7 +15,7 @@ use Rattle.state_context.specs.Rel.{Rel}
 use Rattle.state_media.specs.declared.Links.{Links}
 use Rattle.state_media.specs.Links.{Linked}
 use Rattle.state_kept.specs.declared.Kept.{Kept}
-use Rattle.state_kept.specs.Kept.{Tables, Keeps}
+use Rattle.state_kept.specs.Kept.{Tables, InTables}
 use Rattle.state_whole.specs.declared.Whole.{Whole}
 
 -- what is lent, but for the text: it stays
@@ -25,12 +25,12 @@ pub record World : Type 0 where
   pub starts : List ℕ
   pub tables : Tables
 
-pub record Built (text : List ℕ) (b : Whole) (w : World) (s : State) : Type 0 where
+pub record Mirrors (text : List ℕ) (b : Whole) (w : World) (s : State) : Type 0 where
   pub long : length (w .work) ≡ workSize
   pub places : length (w .starts) ≡ 64
   pub context : Rel (b .context) (take regionSize (w .work)) (w .out) (w .starts) s
   pub links : Linked (b .links) (regionAt heldAt (w .work)) s
-  pub kept : Keeps (b .kept) text (regionAt keptAt (w .work)) (w .tables) s
+  pub kept : InTables (b .kept) text (regionAt keptAt (w .work)) (w .tables) s
 
 -- ---- what is asked for before: nothing, or that there is room
 
@@ -46,7 +46,7 @@ pub record Roomy (b : Whole) : Type 0 where
 
 -- where the machine goes on with a command, the code goes with it
 pub record Handles (text : List ℕ) (Need : Whole → Type 0) (View : Turn → Type 0) (d : Command) (b : Whole) (w : World) (r : Whole) (w′ : World) : Type 0 where
-  pub handles : (t : Turn) (s u : State) → View t → Need b → Built text b w s → within d t s ≡ go u → Built text r w′ u
+  pub handles : (t : Turn) (s u : State) → View t → Need b → Mirrors text b w s → within d t s ≡ go u → Mirrors text r w′ u
 
 -- ---- one part changed
 

@@ -13,7 +13,7 @@ use Rattle.machine.proofs.Outcomes.{first-goes}
 use Rattle.machine_bounded.specs.Within.{within}
 use Rattle.state_whole.specs.declared.Whole.{Whole}
 use Rattle.state_whole.specs.Quiet.{isQuiet}
-use Rattle.state_whole.specs.Whole.{World, Built, Held, Handles, OnPage, withOut, withWork}
+use Rattle.state_whole.specs.Whole.{World, Mirrors, Held, Handles, OnPage, withOut, withWork}
 use Rattle.state_whole.proofs.Quiet.{rests}
 
 pub record Steady (d : Command) : Type 0 where
@@ -27,10 +27,10 @@ quiet-steady d q = record {
   kept = λ t s u p. (let e = rests d q t s .leaves u p in let m = e .kept in rw m);
 }
 
-pub room-in : {text : List ℕ} {b : Whole} {w : World} {s : State} → Held b → Built text b w s → held s ≤ mostTotal
+pub room-in : {text : List ℕ} {b : Whole} {w : World} {s : State} → Held b → Mirrors text b w s → held s ≤ mostTotal
 room-in a y = let e = y .links .end in omega arith
 
-pub room-out : {text : List ℕ} {b : Whole} {w : World} {s : State} → Built text b w s → held s ≤ mostTotal → Held b
+pub room-out : {text : List ℕ} {b : Whole} {w : World} {s : State} → Mirrors text b w s → held s ≤ mostTotal → Held b
 room-out y h = let e = y .links .end in omega arith
 
 pub then-steady : {text : List ℕ} {View : Turn → Type 0} {d e : Command} {b r q : Whole} {w w′ w″ : World} → Steady d → Handles text Held View d b w r w′ → Handles text Held View e r w′ q w″ → Handles text Held View (d ▸ e) b w q w″

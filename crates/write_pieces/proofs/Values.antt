@@ -15,7 +15,7 @@ use lib.ListN.{length, drop, getD, drop-of-length-le}
 use Rattle.lent.specs.Bytes.{if_then_else_, bytes, all}
 use Rattle.lent.specs.Fill.{Filled}
 use Rattle.lent.proofs.Laws.{next, none, both}
-use Rattle.character_reference.specs.Reference.{digitValue, isDigitOf, areDigits, numberFrom, numberOf}
+use Rattle.character_reference.specs.Reference.{digitValue, isDigitOf, areDigits, numberFrom, fromDigits}
 use Rattle.character_reference.proofs.Numbers.{below, above, inside, digit, upper-case, lower-case, no-digit₁, no-digit₂, no-digit₃, no-digit₄}
 use Rattle.machine.specs.Outcome.{stop, go}
 use Rattle.machine.specs.Text.{decimal, startText, startOf, alignText}
@@ -99,7 +99,7 @@ attribute-is : (s : List ℕ) → written (startOf s) ≡ attribute (numberIn s)
 unfolding startOf numberIn
 attribute-is s = on (areDigits 10 9 s)
   where
-    on : (t : Bool) → written (if t then go (startText (numberOf 10 s)) else stop) ≡ attribute (if t then At (numberOf 10 s) else Broken)
+    on : (t : Bool) → written (if t then go (startText (fromDigits 10 s)) else stop) ≡ attribute (if t then At (fromDigits 10 s) else Broken)
     on true = refl
     on false = refl
 

@@ -2,7 +2,7 @@
 use mathlib.Core.List.{List, []}
 use Prim.Native.Nat.{ℕ}
 use Rattle.lent.specs.Bytes.{if_then_else_}
-use Rattle.character_reference.specs.Reference.{areDigits, numberOf}
+use Rattle.character_reference.specs.Reference.{areDigits, fromDigits}
 use Rattle.machine.specs.Outcome.{Outcome, stop, go}
 use Rattle.write_pieces.specs.declared.Start.{Start}
 use Rattle.write_pieces.specs.declared.Start.the-variants.{At, Broken}
@@ -14,4 +14,4 @@ written (go s) = s
 
 -- of an item value, 1 to 9 digits: no part of a promise
 unfoldable pub numberIn : List ℕ → Start
-numberIn s = if areDigits 10 9 s then At (numberOf 10 s) else Broken
+numberIn s = if areDigits 10 9 s then At (fromDigits 10 s) else Broken

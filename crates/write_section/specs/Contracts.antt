@@ -15,7 +15,7 @@ use Rattle.machine.specs.State.{State, Call}
 use Rattle.machine.specs.Section.{footnoteLabels, bodyOf, footnoteSection}
 use Rattle.machine.specs.Totals.{kept}
 use Rattle.state_kept.specs.declared.Kept.{Kept}
-use Rattle.state_kept.specs.Kept.{column, LabelIs, Piece, tables, Keeps}
+use Rattle.state_kept.specs.Kept.{column, LabelIs, Piece, tables, InTables}
 use Rattle.state_buffers.specs.Stand.{Holds}
 use Rattle.state_kept.specs.Sizes.{noteRows}
 use Rattle.write_section.specs.Pages.{itemPage, itemsPage}
@@ -24,7 +24,7 @@ use Rattle.write_section.specs.Pages.{itemPage, itemsPage}
 
 pub record WritesSection (k : Kept) (fixed : Fixed) (text work footnotes calls out : List ℕ) (at : ℕ) (out′ : List ℕ) (r : ℕ) : Type 0 where
   pub writes : (definitions labels : List ℕ) (s u : State) → s .captures ≡ [] → s .fixed ≡ fixed → length work ≡ workSize → k .end ≤ regionSize
-      → Keeps k text (regionAt keptAt work) (tables definitions footnotes calls labels) s → Holds out at (s .page) → footnoteSection s ≡ go u
+      → InTables k text (regionAt keptAt work) (tables definitions footnotes calls labels) s → Holds out at (s .page) → footnoteSection s ≡ go u
       → Holds out′ r (u .page) × (length out′ ≡ length out)
 
 -- ---- the inner functions
@@ -39,7 +39,7 @@ pub record There (k : Kept) (text work footnotes calls : List ℕ) (s : State) :
   pub labels : List ℕ
   pub long : length work ≡ workSize
   pub fits : k .end ≤ regionSize
-  pub keeps : Keeps k text (regionAt keptAt work) (tables definitions footnotes calls labels) s
+  pub keeps : InTables k text (regionAt keptAt work) (tables definitions footnotes calls labels) s
 
 -- the item of the footnote in row j of the table
 pub record WritesFound (ending : Ending) (label : List ℕ) (times : ℕ) (work footnotes : List ℕ) (j : ℕ) (out : List ℕ) (at : ℕ) (out′ : List ℕ) (r : ℕ) : Type 0 where
