@@ -5,16 +5,40 @@ ghost use Rattle.regions.specs.Sizes.{workSize};
 ghost use Rattle.state_kept.specs.Kept.{tables};
 ghost use Rattle.dispatch_turns.specs.Loud.{world};
 ghost use Rattle.run_pass.specs.Passing.{Passes};
+ghost use Rattle.run_pass.specs.Private.{hasRoom, fullOf};
 use event::Event;
 use event::EventIndex;
 use machine::Options;
 use run_next::Place;
+use state_whole::Shortage;
 use state_whole::Whole;
 
-// What a pass comes to: the state after it, or the number of the refusal and its event.
+// What a pass comes to: the state after it, or the event after which the work bytes or the output have no room.
 pub enum Passed {
     On(Whole),
-    Over(usize, EventIndex),
+    WorkFull(EventIndex),
+    PageFull(EventIndex),
+}
+
+fn has_room(l: Shortage) -> bool
+    ensures { λ r. ⌜ r ≡ hasRoom l ⌝ }
+{
+    match l {
+        Shortage::Nothing => true,
+        Shortage::WorkFull => false,
+        Shortage::PageFull => false,
+    }
+}
+
+// What lacks room, after this event.
+fn full(l: Shortage, place: EventIndex) -> Passed
+    ensures { λ r. ⌜ r ≡ fullOf l place ⌝ }
+{
+    match l {
+        Shortage::WorkFull => Passed::WorkFull(place),
+        Shortage::Nothing => Passed::PageFull(place),
+        Shortage::PageFull => Passed::PageFull(place),
+    }
 }
 
 // The events of definitions, or all others, in order, up to the first after which there is no room.
@@ -41,8 +65,8 @@ pub fn pass(
         at: 0,
         inside: false,
     };
-    let mut number: usize = 0;
-    while number == 0 {
+    let mut lack = Shortage::Nothing;
+    while has_room(lack) {
         let next = run_next::ahead(first, p, events);
         let i = next.at;
         if n <= i {
@@ -66,7 +90,7 @@ pub fn pass(
                 calls,
                 labels,
             );
-            number = state_whole::lack(r, out.len());
+            lack = state_whole::lack(r, out.len());
             continue;
         }
         let c = r.context;
@@ -74,7 +98,7 @@ pub fn pass(
         if e.is_enter() {
             let html = options.allow_dangerous_html;
             r.context = dispatch_enter::on_enter(c, e, html, captures, starts, out);
-            number = state_whole::lack(r, out.len());
+            lack = state_whole::lack(r, out.len());
             continue;
         }
         r.context = dispatch_handle::handle_exit(
@@ -88,7 +112,8 @@ pub fn pass(
             starts,
             out,
         );
-        number = state_whole::lack(r, out.len());
+        lack = state_whole::lack(r, out.len());
     }
-    Passed::Over(number, EventIndex(p.at - 1))
+    let last = p.at - 1;
+    full(lack, EventIndex(last))
 }

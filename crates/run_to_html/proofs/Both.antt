@@ -5,9 +5,7 @@ use mathlib.Core.List.{List, [], append-nil}
 use mathlib.Core.Option.{none}
 use Prim.Native.Nat.{ℕ, zero-le}
 use borrow.Author.Tests.{le-ltb}
-use lib.Dec.{eqb}
 use lib.ListN.{length}
-use borrow.Author.Tests.{eq-eqb, ne-eqb, eqb-true, eqb-false}
 use Rattle.regions.specs.Sizes.{workSize}
 use Rattle.event.specs.declared.EventIndex.{EventIndex}
 use Rattle.event.specs.Event.{eventsOf}
@@ -27,28 +25,14 @@ use Rattle.state_whole.specs.declared.Whole.{Whole}
 use Rattle.state_whole.specs.Whole.{World}
 use Rattle.dispatch_turns.specs.Passing.{turnsLeft}
 use Rattle.run_pass.specs.declared.Passed.{Passed}
-use Rattle.run_pass.specs.declared.Passed.the-variants.{On, Over}
+use Rattle.run_pass.specs.declared.Passed.the-variants.{On}
+use Rattle.run_pass.specs.declared.Passed.the-variants as P
 use Rattle.run_answer.specs.declared.Rendered.{Rendered}
 use Rattle.run_answer.specs.declared.Rendered.the-variants.{WorkFull, PageFull}
 use Rattle.run_next.specs.Reach.{run, Stands}
-use Rattle.run_pass.specs.Passing.{Passes}
+use Rattle.run_pass.specs.Passing.{Refuses, Passes}
 use Rattle.run_to_html.specs.Renders.{Answers, Renders}
-use Rattle.run_to_html.specs.Private.{overOf, Begun, Finishes, turnsFrom, FinishesAll}
-
--- ---- refused
-
-pub is-eight : {number : ℕ} {place : EventIndex} → number ≡ 8 → WorkFull place ≡ overOf number place
-is-eight {number} p = rw (eq-eqb number 8 p)
-
-pub not-eight : {number : ℕ} {place : EventIndex} → (number ≡ 8 → ⊥) → PageFull place ≡ overOf number place
-not-eight {number} p = rw (ne-eqb number 8 p)
-
-over-answers : (out : List ℕ) (number : ℕ) (place : EventIndex) (a : Answer) → a ≡ refused number (place .0) → ((number ≡ 8 → ⊥) → number ≡ 9) → Answers out (overOf number place) a
-over-answers out number place a p h = at (eqb number 8) refl
-  where
-    at : (x : Bool) → eqb number 8 ≡ x → Answers out (overOf number place) a
-    at true e = let n = eqb-true number 8 e in rw e (rw n at p)
-    at false e = let n = h (eqb-false number 8 e) in rw e (rw n at p)
+use Rattle.run_to_html.specs.Private.{Begun, Finishes, turnsFrom, FinishesAll}
 
 -- ---- one pass after the other
 
@@ -56,21 +40,27 @@ goes-none : {u v : State} → Goes [] u v → u ≡ v
 goes-none (ends s) = refl
 
 module _ {text events : List ℕ} {o : Options} {b : Whole} {w w′ : World} {p : Passed} where
-  pub first-over : {number : ℕ} {place : EventIndex} {out : List ℕ} {r : Rendered} → p ≡ Over number place → r ≡ overOf number place → Passes true text events o b w p w′ → FinishesAll true text events o b w out r
-  first-over {number} {place} {out} {r} m n x = refused-first (subst (λ q. Passes true text events o b w q w′) m x)
-    where
-      refused-first : Passes true text events o b w (Over number place) w′ → FinishesAll true text events o b w out r
-      refused-first k = record { finishes = λ s v x g l. rw n (over-answers out number place _ (k .passes .refused-so .refuses (turnsLeft false text events o false 0) s v x g) (k .passes .kinds)) }
+  -- refused in a pass, the run is refused
+  refused-first : {number place : ℕ} → Refuses text events (length (w .out)) (turnsLeft true text events o false 0) b w number place → (s v : State) → Stands text (length (w .out)) b w s → Goes (turnsFrom true text events o) s v
+      → run events (length (w .out)) (turnsFrom true text events o) s ≡ refused number place
+  refused-first k s v y g = k .refuses (turnsLeft false text events o false 0) s v y g
 
-  pub second-over : {number : ℕ} {place : EventIndex} {out : List ℕ} {r : Rendered} → p ≡ Over number place → r ≡ overOf number place → Passes false text events o b w p w′ → FinishesAll false text events o b w out r
-  second-over {number} {place} {out} {r} m n x = refused-second (subst (λ q. Passes false text events o b w q w′) m x)
-    where
-      refused-second : Passes false text events o b w (Over number place) w′ → FinishesAll false text events o b w out r
-      refused-second k = record {
-        finishes = λ s v x g l.
-            let e = append-nil (turnsLeft false text events o false 0) in
-            rw n (over-answers out number place _ (rw e at (k .passes .refused-so .refuses [] s v x (rw e g))) (k .passes .kinds));
-      }
+  refused-second : {number place : ℕ} → Refuses text events (length (w .out)) (turnsLeft false text events o false 0) b w number place → (s v : State) → Stands text (length (w .out)) b w s → Goes (turnsFrom false text events o) s v
+      → run events (length (w .out)) (turnsFrom false text events o) s ≡ refused number place
+  refused-second k s v y g = let e = append-nil (turnsLeft false text events o false 0) in rw e at (k .refuses [] s v y (rw e g))
+
+  module _ {place : EventIndex} {out : List ℕ} where
+    pub first-work : p ≡ P.WorkFull place → Passes true text events o b w p w′ → FinishesAll true text events o b w out (WorkFull place)
+    first-work m x = let k = subst (λ q. Passes true text events o b w q w′) m x in record { finishes = λ s v y g l. refused-first (k .passes) s v y g }
+
+    pub first-page : p ≡ P.PageFull place → Passes true text events o b w p w′ → FinishesAll true text events o b w out (PageFull place)
+    first-page m x = let k = subst (λ q. Passes true text events o b w q w′) m x in record { finishes = λ s v y g l. refused-first (k .passes) s v y g }
+
+    pub second-work : p ≡ P.WorkFull place → Passes false text events o b w p w′ → FinishesAll false text events o b w out (WorkFull place)
+    second-work m x = let k = subst (λ q. Passes false text events o b w q w′) m x in record { finishes = λ s v y g l. refused-second (k .passes) s v y g }
+
+    pub second-page : p ≡ P.PageFull place → Passes false text events o b w p w′ → FinishesAll false text events o b w out (PageFull place)
+    second-page m x = let k = subst (λ q. Passes false text events o b w q w′) m x in record { finishes = λ s v y g l. refused-second (k .passes) s v y g }
 
   module _ {c : Whole} {out : List ℕ} {r : Rendered} (m : p ≡ On c) (long : length (w′ .out) ≡ length (w .out)) where
     pub first-on : Passes true text events o b w p w′ → FinishesAll false text events o c w′ out r → FinishesAll true text events o b w out r

@@ -3,11 +3,8 @@ use mathlib.Core.Path.{_≡_}
 use mathlib.Core.Bool.{Bool, true, false}
 use mathlib.Core.List.{List, [], _++_}
 use Prim.Native.Nat.{ℕ}
-use lib.Dec.{eqb}
 use lib.ListN.{length}
-use Rattle.lent.specs.Bytes.{if_then_else_}
 use Rattle.regions.specs.Sizes.{workSize}
-use Rattle.event.specs.declared.EventIndex.{EventIndex}
 use Rattle.machine.specs.declared.Options.{Options}
 use Rattle.machine.specs.declared.Fixed.{Fixed}
 use Rattle.machine.specs.State.{State, start}
@@ -21,11 +18,7 @@ use Rattle.state_whole.specs.Whole.{World, Mirrors}
 use Rattle.dispatch_turns.specs.Passing.{turnsLeft}
 use Rattle.run_next.specs.Reach.{run, Stands}
 use Rattle.run_answer.specs.declared.Rendered.{Rendered}
-use Rattle.run_answer.specs.declared.Rendered.the-variants.{WorkFull, PageFull}
 use Rattle.run_to_html.specs.Renders.{Answers}
-
-abbrev pub overOf : ℕ → EventIndex → Rendered
-overOf number place = if eqb number 8 then WorkFull place else PageFull place
 
 -- before the first event, whatever is lent
 pub record Begun (fixed : Fixed) (b : Whole) : Type 0 where

@@ -6,7 +6,7 @@ ghost use Rattle.regions.specs.Sizes.{workSize};
 ghost use Rattle.state_kept.specs.Kept.{tables};
 ghost use Rattle.dispatch_turns.specs.Loud.{world};
 ghost use Rattle.run_to_html.specs.Renders.{Renders};
-ghost use Rattle.run_to_html.specs.Private.{Begun, Finishes, FinishesAll, overOf};
+ghost use Rattle.run_to_html.specs.Private.{Begun, Finishes, FinishesAll};
 use event::EventIndex;
 use machine::Fixed;
 use machine::Options;
@@ -25,15 +25,6 @@ fn begin(fixed: Fixed) -> Whole
         links,
         kept,
     }
-}
-
-fn over(number: usize, place: EventIndex) -> Rendered
-    ensures { λ r. ⌜ r ≡ overOf number place ⌝ }
-{
-    if number == 8 {
-        return Rendered::WorkFull(place);
-    }
-    Rendered::PageFull(place)
 }
 
 // Behind the last event: the footnote section, where anything was called.
@@ -95,7 +86,8 @@ fn second(
         labels,
     );
     match p {
-        Passed::Over(number, place) => over(number, place),
+        Passed::WorkFull(place) => Rendered::WorkFull(place),
+        Passed::PageFull(place) => Rendered::PageFull(place),
         Passed::On(c) => finish(c, text, events, work, footnotes, calls, out),
     }
 }
@@ -132,7 +124,8 @@ fn compile(
         labels,
     );
     match p {
-        Passed::Over(number, place) => over(number, place),
+        Passed::WorkFull(place) => Rendered::WorkFull(place),
+        Passed::PageFull(place) => Rendered::PageFull(place),
         Passed::On(c) => second(
             c,
             text,

@@ -1,4 +1,4 @@
--- Whether something lacks room, as a number. Assumes nothing.
+-- Whether something lacks room, and by which refusal. Assumes nothing.
 use mathlib.Core.Path.{_≡_}
 use mathlib.Core.List.{List}
 use mathlib.Core.Option.{Option, none, some}
@@ -7,13 +7,15 @@ use lib.ListN.{length}
 use Rattle.machine.specs.State.{State}
 use Rattle.machine.specs.Totals.{over}
 use Rattle.state_whole.specs.declared.Whole.{Whole}
+use Rattle.state_whole.specs.declared.Shortage.{Shortage}
+use Rattle.state_whole.specs.declared.Shortage.the-variants.{Nothing, WorkFull, PageFull}
 use Rattle.state_whole.specs.Whole.{World, Mirrors}
 
--- 0 where there is room
-abbrev pub numberOr : Option ℕ → ℕ
-numberOr none = 0
-numberOr (some k) = k
+-- the refusal's number
+abbrev pub refusalOf : Shortage → Option ℕ
+refusalOf Nothing = none
+refusalOf WorkFull = some 8
+refusalOf PageFull = some 9
 
-pub record Lacks (b : Whole) (room r : ℕ) : Type 0 where
-  pub lacks : (text : List ℕ) (w : World) (s : State) → length (w .out) ≡ room → Mirrors text b w s → r ≡ numberOr (over room s)
-  pub kinds : (r ≡ 0 → ⊥) → (r ≡ 8 → ⊥) → r ≡ 9
+pub record Lacks (b : Whole) (room : ℕ) (r : Shortage) : Type 0 where
+  pub lacks : (text : List ℕ) (w : World) (s : State) → length (w .out) ≡ room → Mirrors text b w s → over room s ≡ refusalOf r

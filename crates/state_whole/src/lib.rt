@@ -10,27 +10,32 @@ pub struct Whole {
     pub kept: Kept,
 }
 
-// ---- room: the limits of 8 and 9
+// What lacks room after an event: nothing; the work bytes, refusal 8; else the output, 9.
+pub enum Shortage {
+    Nothing,
+    WorkFull,
+    PageFull,
+}
 
-// The number of the refusal where something lacks room, 8 before 9; else 0.
-pub fn lack(b: Whole, room: usize) -> usize
+// 8 before 9.
+pub fn lack(b: Whole, room: usize) -> Shortage
     ensures { λ r. ⌜ Lacks b room r ⌝ }
 {
     let c = b.context;
     let captures = c.buffers;
     if regions::SIZE < captures.end {
-        return 8;
+        return Shortage::WorkFull;
     }
     let held = b.links;
     if regions::SIZE < held.end {
-        return 8;
+        return Shortage::WorkFull;
     }
     let kept = b.kept;
     if regions::SIZE < kept.end {
-        return 8;
+        return Shortage::WorkFull;
     }
     if room < captures.page {
-        return 9;
+        return Shortage::PageFull;
     }
-    0
+    Shortage::Nothing
 }

@@ -1,5 +1,5 @@
 use native.Mathlib.Omega.{arith}
-use Rattle.run_to_html.proofs.Both.{first-over, first-on}
+use Rattle.run_to_html.proofs.Both.{first-work, first-page, first-on}
 use borrow.Author.Needs.{needs}
 use Rattle.run_to_html.proofs.compile.Statement.{statement}
 use Rattle.run_to_html.proofs.compile.Tie as tie
@@ -8,31 +8,34 @@ second-requires : tie.Need-second-requires
 second-requires c κs = omega (arith, c .before .before .before .before .before .before .before .before .before .before .before .before .before .before .before .before .before .before .before .before .before .before .before .before .pass .kept, c .before .before .before .before .before .before .before .before .before .before .before .before .before .before .before .before .before .before .before .before .before .before .before .before .before .before .before .before .before .before .before .before .before .before .before .before .before .before .before .before .before .pre)
 
 returns : tie.Need-returns
-returns c = first-over (c .before .before .p .given .1) (c .over .ensures) (c .before .before .before .before .before .before .before .before .before .before .before .before .before .before .before .before .before .before .pass .ensures)
-
-same-length-8 : tie.Need-same-length-8
-same-length-8 c = omega (arith, c .before .before .before .before .before .before .before .before .before .before .before .before .before .before .before .before .before .before .before .before .before .before .before .before .before .before .before .before .before .before .before .before .before .before .before .before .before .before .before .pass .kept, c .before .before .before .before .before .before .before .before .before .before .before .before .before .before .second .kept)
-
-same-length-9 : tie.Need-same-length-9
-same-length-9 c = omega (arith, c .before .before .before .before .before .before .before .before .before .before .before .before .before .before .before .before .before .before .before .before .before .before .before .before .before .before .before .before .before .before .before .before .before .before .before .before .before .before .before .pass .kept, c .before .before .before .before .before .before .before .before .before .before .before .before .before .before .second .kept)
-
-same-length-10 : tie.Need-same-length-10
-same-length-10 c = omega (arith, c .before .before .before .before .before .before .before .before .before .before .before .before .before .before .before .before .before .before .before .before .before .before .before .before .before .before .before .before .before .before .before .before .before .before .before .before .before .before .before .pass .kept, c .before .before .before .before .before .before .before .before .before .before .before .before .before .before .second .kept)
-
-same-length-11 : tie.Need-same-length-11
-same-length-11 c = omega (arith, c .before .before .before .before .before .before .before .before .before .before .before .before .before .before .before .before .before .before .before .before .before .before .before .before .before .before .before .before .before .before .before .before .before .before .before .before .before .before .before .pass .kept, c .before .before .before .before .before .before .before .before .before .before .before .before .before .before .second .kept)
-
-same-length-12 : tie.Need-same-length-12
-same-length-12 c = omega (arith, c .before .before .before .before .before .before .before .before .before .before .before .before .before .before .before .before .before .before .before .before .before .before .before .before .before .before .before .before .before .before .before .before .before .before .before .before .before .before .before .pass .kept, c .before .before .before .before .before .before .before .before .before .before .before .before .before .before .second .kept)
-
-same-length-13 : tie.Need-same-length-13
-same-length-13 c = omega (arith, c .before .before .before .before .before .before .before .before .before .before .before .before .before .before .before .before .before .before .before .before .before .before .before .before .before .before .before .before .before .before .before .before .before .before .before .before .before .before .before .pass .kept, c .before .before .before .before .before .before .before .before .before .before .before .before .before .before .second .kept)
-
-same-length-14 : tie.Need-same-length-14
-same-length-14 c = omega (arith, c .before .before .before .before .before .before .before .before .before .before .before .before .before .before .before .before .before .before .before .before .before .before .before .before .before .before .before .before .before .before .before .before .before .before .before .before .before .before .before .pass .kept, c .before .before .before .before .before .before .before .before .before .before .before .before .before .before .second .kept)
+returns c = search (first-work, needs)
 
 returns-2 : tie.Need-returns-2
-returns-2 c = let at = c .before .before .before .before .before .before .before .before .before .before .before .before .before .before .before .before .before .before .before .before .before .before .before .before .before .before .before .before .before .before .before .before .before .before .before .before .before .before .before in first-on (c .before .before .before .before .before .before .before .before .before .before .before .before .before .before .before .before .before .before .before .before .before .before .before .p2 .given .1) (omega (arith, at .pass .kept)) (at .pass .ensures) (c .before .before .before .before .before .before .before .before .before .before .before .before .before .before .second .ensures)
+returns-2 c = search (first-page, needs)
+
+same-length-15 : tie.Need-same-length-15
+same-length-15 c = omega (arith, c .before .before .before .before .before .before .before .before .before .before .before .before .before .before .before .before .before .before .before .before .before .before .before .before .before .before .before .before .before .before .before .before .before .before .before .before .before .before .before .pass .kept, c .before .before .before .before .before .before .before .before .before .before .before .before .before .before .second .kept)
+
+same-length-16 : tie.Need-same-length-16
+same-length-16 c = omega (arith, c .before .before .before .before .before .before .before .before .before .before .before .before .before .before .before .before .before .before .before .before .before .before .before .before .before .before .before .before .before .before .before .before .before .before .before .before .before .before .before .pass .kept, c .before .before .before .before .before .before .before .before .before .before .before .before .before .before .second .kept)
+
+same-length-17 : tie.Need-same-length-17
+same-length-17 c = omega (arith, c .before .before .before .before .before .before .before .before .before .before .before .before .before .before .before .before .before .before .before .before .before .before .before .before .before .before .before .before .before .before .before .before .before .before .before .before .before .before .before .pass .kept, c .before .before .before .before .before .before .before .before .before .before .before .before .before .before .second .kept)
+
+same-length-18 : tie.Need-same-length-18
+same-length-18 c = omega (arith, c .before .before .before .before .before .before .before .before .before .before .before .before .before .before .before .before .before .before .before .before .before .before .before .before .before .before .before .before .before .before .before .before .before .before .before .before .before .before .before .pass .kept, c .before .before .before .before .before .before .before .before .before .before .before .before .before .before .second .kept)
+
+same-length-19 : tie.Need-same-length-19
+same-length-19 c = omega (arith, c .before .before .before .before .before .before .before .before .before .before .before .before .before .before .before .before .before .before .before .before .before .before .before .before .before .before .before .before .before .before .before .before .before .before .before .before .before .before .before .pass .kept, c .before .before .before .before .before .before .before .before .before .before .before .before .before .before .second .kept)
+
+same-length-20 : tie.Need-same-length-20
+same-length-20 c = omega (arith, c .before .before .before .before .before .before .before .before .before .before .before .before .before .before .before .before .before .before .before .before .before .before .before .before .before .before .before .before .before .before .before .before .before .before .before .before .before .before .before .pass .kept, c .before .before .before .before .before .before .before .before .before .before .before .before .before .before .second .kept)
+
+same-length-21 : tie.Need-same-length-21
+same-length-21 c = omega (arith, c .before .before .before .before .before .before .before .before .before .before .before .before .before .before .before .before .before .before .before .before .before .before .before .before .before .before .before .before .before .before .before .before .before .before .before .before .before .before .before .pass .kept, c .before .before .before .before .before .before .before .before .before .before .before .before .before .before .second .kept)
+
+returns-3 : tie.Need-returns-3
+returns-3 c = let at = c .before .before .before .before .before .before .before .before .before .before .before .before .before .before .before .before .before .before .before .before .before .before .before .before .before .before .before .before .before .before .before .before .before .before .before .before .before .before .before in first-on (c .before .before .before .before .before .before .before .before .before .before .before .before .before .before .before .before .before .before .before .before .before .before .before .p3 .given .1) (omega (arith, at .pass .kept)) (at .pass .ensures) (c .before .before .before .before .before .before .before .before .before .before .before .before .before .before .second .ensures)
 
 pub compile-spec : {M : Type 1} → statement M
 compile-spec =
@@ -40,7 +43,7 @@ compile-spec =
     (tie.spec
     (λ c κs. search needs)
     (λ c. search needs)
-    (λ c κs. search needs)
+    (λ c. search needs)
     (λ c. search needs)
     second-requires
     (λ c. search needs)
@@ -51,11 +54,19 @@ compile-spec =
     (λ c. search needs)
     (λ c. search needs)
     returns
-    same-length-8
-    same-length-9
-    same-length-10
-    same-length-11
-    same-length-12
-    same-length-13
-    same-length-14
-    returns-2)
+    (λ c. search needs)
+    (λ c. search needs)
+    (λ c. search needs)
+    (λ c. search needs)
+    (λ c. search needs)
+    (λ c. search needs)
+    (λ c. search needs)
+    returns-2
+    same-length-15
+    same-length-16
+    same-length-17
+    same-length-18
+    same-length-19
+    same-length-20
+    same-length-21
+    returns-3)
