@@ -1,5 +1,5 @@
 #!/usr/bin/env python3
-"""Compiles the library as it stands, proved or not, so that a change can be measured before it is proved: `bench/run unproved`.
+"""Compiles the library as it stands, proved or not, so that a change can be measured before it is proved: `bench/measure unproved`.
 
 unproved.py ROOT KIT WORK writes WORK/exports.ll. The crates `exports` and `bench_leaves` become one program, which the kit's
 `rattle-cases` compiles from sources; the LLVM module that the clang in WORK/kit kept gets a C function for each export that
