@@ -1,7 +1,7 @@
 """How the programs of this repository are made and started: proved and built by `rt`, then run as `rt` runs them."""
 import functools, os, platform, re, subprocess, sys, threading, time
 
-ROOT = os.path.dirname(os.path.dirname(os.path.abspath(__file__)))
+ROOT = os.path.dirname(os.path.dirname(os.path.dirname(os.path.abspath(__file__))))
 KIT = os.environ.get('RATTLE_HOME', '/opt/rattle')
 MOST_WORDS = 60  # lines of the prover that are shown
 TOOLS = os.path.join(KIT, 'on', platform.machine(), 'toolchain')

@@ -1,6 +1,6 @@
 """A note's events, its bundle and its page, as the tools have them."""
 import os, struct, subprocess, sys
-from program import ROOT, stop
+from lib.program import ROOT, stop
 
 RUST = os.path.join(ROOT, 'rust')
 CARGO = {**os.environ, 'CARGO_TARGET_DIR': os.path.join(RUST, 'target')}
