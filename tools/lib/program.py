@@ -58,16 +58,16 @@ def write_file(name, data):
         raise
 
 
-def dependencies():
-    """The crates of the repository, each with the crates that it names."""
-    with open(os.path.join(ROOT, 'crates.txt')) as lines:
+def dependencies(listed):
+    """The crates of a list such as crates.txt, each with the crates that it names."""
+    with open(listed) as lines:
         rows = [line.split('#')[0].partition(':') for line in lines]
     return {name.strip(): words.split() for name, colon, words in rows if colon}
 
 
-def reached(names):
-    """These crates and all that they stand on, those of the kit too."""
-    known, found, new = dependencies(), [], list(names)
+def reached(names, listed=os.path.join(ROOT, 'crates.txt')):
+    """These crates and all that they stand on, those of the kit too; and those of the list alone."""
+    known, found, new = dependencies(listed), [], list(names)
     while new:
         name = new.pop()
         if name not in found:
