@@ -32,7 +32,7 @@ pub enum Moved {
     To(usize, u8),
 }
 
-// tools/nesting_tables.py writes the tables. 2 bytes to a state: its place among the entries, and 1 where nothing more has to come.
+// tools/nesting_tables writes the tables. 2 bytes to a state: its place among the entries, and 1 where nothing more has to come.
 const STATES: [u8; 96] = *b"\
     \x00\x01\x00\x01\x00\x01\x00\x01\x03\x01\x03\x00\x06\x00\x0d\x00\
     \x03\x00\x04\x00\x0b\x01\x14\x01\x13\x00\x14\x00\x18\x00\x19\x01\

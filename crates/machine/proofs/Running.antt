@@ -1,4 +1,4 @@
--- For computed examples: to unfold `running` is to unfold the whole definition. Made by tools/machine_pages.py. Assumes nothing.
+-- For computed examples: to unfold `running` is to unfold the whole definition. Made by tools/machine_pages. Assumes nothing.
 use Prim.Native.Nat.{ℕ}
 use Rattle.utf8.specs.Utf8.{afterFirst, lengthOf, isUtf8, inside, charOf}
 use Rattle.encode.specs.Encode.{encodeByte, encodeOf}
