@@ -252,7 +252,7 @@ clear-end d₀ d i₀ i h p =
 
 -- ---- a block that is copied before it is written
 
-fill-all : (b s : List ℕ) (n : ℕ) → length b ≡ n → length s ≡ n → fill b 0 (take n s) ≡ s
+pub fill-all : (b s : List ℕ) (n : ℕ) → length b ≡ n → length s ≡ n → fill b 0 (take n s) ≡ s
 unfolding fill
 fill-all b s n p q =
     let e : length s ≡ length b = omega arith in

@@ -6,6 +6,7 @@ ghost use mathlib.Core.Path.{_≡_};
 ghost use lib.ListN.{length, take};
 ghost use Rattle.lent.specs.Bytes.{hasBit};
 ghost use Rattle.lent.specs.Fill.{fill, zeros, Filled};
+ghost use Rattle.lent.specs.Private.{Ahead};
 
 // Appends one byte.
 pub fn put(out: &mut [u8], at: usize, b: u8) -> usize
@@ -47,6 +48,42 @@ pub fn put_sixteen(out: &mut [u8], at: usize, s: &[u8]) -> usize
     let mut block = [0u8; 16];
     copy(&mut block, 0, s, 16);
     put_all(out, at, &block)
+}
+
+// The same with sixty-four bytes.
+pub fn put_sixty_four(out: &mut [u8], at: usize, s: &[u8]) -> usize
+    ensures { λ r. ⌜ Filled (now (out .entry)) at (now (s .entry)) (now (out .exit)) r ⌝ }
+{
+    if s.len() != 64 {
+        return put_all(out, at, s);
+    }
+    let mut block = [0u8; 64];
+    copy(&mut block, 0, s, 64);
+    put_all(out, at, &block)
+}
+
+// The first k of eight bytes. Where there is room all eight are moved, at once: what is appended next covers the rest.
+pub fn put_ahead(out: &mut [u8], at: usize, s: &[u8], k: usize) -> usize
+    requires { ⌜ (length (now s) ≡ 8) × (k ≤ 8) ⌝ }
+    ensures { λ r. ⌜ Ahead (now (out .entry)) at (take k (now (s .entry))) (8 - k) (now (out .exit)) r ⌝ }
+{
+    if room(out.len(), at) < 8 {
+        return put_all(out, at, &s[0..k]);
+    }
+    let mut block = [0u8; 8];
+    copy(&mut block, 0, s, 8);
+    copy(out, at, &block, 8);
+    at + k
+}
+
+// How many of n bytes lie from a place on.
+pub fn room(n: usize, at: usize) -> usize
+    ensures { λ r. ⌜ r ≡ n - at ⌝ }
+{
+    if n < at {
+        return 0;
+    }
+    n - at
 }
 
 // The first n bytes of `s`, which fit.

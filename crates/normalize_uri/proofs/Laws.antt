@@ -1,23 +1,20 @@
 -- What the code of `normalize_uri` goes by: the walk over the bytes. Assumes nothing.
 use mathlib.Core.Path.{_≡_, refl, sym, ap, _∙_}
-use mathlib.Core.Bool.{Bool, true, false, not}
-use mathlib.Core.Logic.{inr}
+use mathlib.Core.Bool.{Bool, true, false}
 use mathlib.Core.List.{List, [], _∷_, _++_, append-nil, append-assoc}
 use Prim.Native.Nat.{ℕ, zero, suc, _+_, _-_, _/_, _%_, _≤_, _<_}
 use native.Mathlib.Decide.{decLt}
 use native.Mathlib.Omega.{arith}
-use borrow.Author.Tests.{ne-eqb, eqb-false, not-false}
-use lib.Dec.{eqb}
-use lib.ListN.{length, take, drop, getD, drop-of-length-le}
+use lib.ListN.{length, drop, getD, drop-of-length-le}
 use lib.Seq.{drop-drop}
-use Rattle.lent.specs.Bytes.{any, each}
-use Rattle.lent.proofs.Laws.{next, each-append, or-left, or-right}
+use Rattle.lent.specs.Bytes.{each}
+use Rattle.lent.proofs.Laws.{next, each-append}
 use Rattle.encode_byte.specs.Byte.{encodeByte}
 use Rattle.encode_byte.proofs.Laws.{off}
 use Rattle.encode.specs.Encode.{encodeOf}
-use Rattle.url_byte.specs.Byte.{isKept, stays, hexUpper, percent, urlByte}
-use Rattle.url_byte.specs.Private.{byteOf, isUnsafe}
-use Rattle.url_byte.proofs.Laws.{unlike, left-alone, hex-low, hex-high}
+use Rattle.url_byte.specs.Byte.{stays, hexUpper, percent, urlByte}
+use Rattle.url_byte.specs.Private.{byteOf}
+use Rattle.url_byte.proofs.Laws.{hex-low, hex-high}
 use Rattle.normalize_uri.specs.Url.{normalizeOf}
 use Rattle.normalize_uri.specs.Private.{partOf}
 
@@ -43,11 +40,11 @@ part-rest (suc n) [] = refl
 part-rest (suc n) (b ∷ l) = ap (λ (x : List ℕ). urlByte (stays (b ∷ l)) b ++ x) (part-rest n l) ∙ sym (append-assoc (urlByte (stays (b ∷ l)) b) (partOf n l) (normalizeOf (drop n l)))
 
 module _ (on : Bool) (l : List ℕ) (i : ℕ) where
-  pub block-more : encodeOf on (normalizeOf (drop i l)) ≡ encodeOf on (partOf 16 (drop i l)) ++ encodeOf on (normalizeOf (drop (i + 16) l))
+  pub block-more : (n : ℕ) → encodeOf on (normalizeOf (drop i l)) ≡ encodeOf on (partOf n (drop i l)) ++ encodeOf on (normalizeOf (drop (i + n) l))
   unfolding encodeOf
-  block-more =
-      ap (each (encodeByte on)) (part-rest 16 (drop i l))
-      ∙ each-append (encodeByte on) (partOf 16 (drop i l)) (normalizeOf (drop 16 (drop i l)))
+  block-more n =
+      ap (each (encodeByte on)) (part-rest n (drop i l))
+      ∙ each-append (encodeByte on) (partOf n (drop i l)) (normalizeOf (drop n (drop i l)))
       ∙ rw drop-drop
 
   pub block-last : encodeOf on (normalizeOf (drop i l)) ≡ encodeOf on (partOf (length l - i) (drop i l))
@@ -56,31 +53,29 @@ module _ (on : Bool) (l : List ℕ) (i : ℕ) where
       let h : length l ≤ i + (length l - i) = omega arith in
       ap (encodeOf on) (part-rest (length l - i) (drop i l) ∙ rw (drop-drop, drop-of-length-le l h) (append-nil (partOf (length l - i) (drop i l))))
 
--- ---- safe bytes
+pub part-cons : (on : Bool) (k b : ℕ) (l : List ℕ) → encodeOf on (partOf (suc k) (b ∷ l)) ≡ encodeOf on (byteOf (b ∷ l)) ++ encodeOf on (partOf k l)
+unfolding partOf encodeOf
+part-cons on k b l = each-append (encodeByte on) (byteOf (b ∷ l)) (partOf k l)
 
-is-kept : (b : ℕ) → isUnsafe b ≡ false → isKept b ≡ true
-is-kept b p = not-false (isKept b) (or-left (not (isKept b)) (eqb b 38) p)
+-- a part in two
+part-none : (n : ℕ) → partOf n [] ≡ []
+unfolding partOf
+part-none zero = refl
+part-none (suc n) = refl
 
-safe-stays : (b : ℕ) (bs : List ℕ) → isUnsafe b ≡ false → stays (b ∷ bs) ≡ true
-unfolding stays
-safe-stays b bs p = rw (ne-eqb b 37 (unlike b 37 (is-kept b p) refl)) (is-kept b p)
+part-cut : (k n : ℕ) (l : List ℕ) → k ≤ n → partOf n l ≡ partOf k l ++ partOf (n - k) (drop k l)
+unfolding partOf
+part-cut zero n l h = let e : n - 0 ≡ n = omega arith in rw e
+part-cut (suc k) zero l h = absurd (omega arith)
+part-cut (suc k) (suc n) [] h = sym (part-none (suc n - suc k))
+part-cut (suc k) (suc n) (b ∷ l) h =
+    let e : suc n - suc k ≡ n - k = omega arith in
+    let m : k ≤ n = omega arith in
+    rw e (ap (λ (x : List ℕ). byteOf (b ∷ l) ++ x) (part-cut k n l m) ∙ sym (append-assoc (byteOf (b ∷ l)) (partOf k l) (partOf (n - k) (drop k l))))
 
-safe-encoded : (on : Bool) (b : ℕ) → isUnsafe b ≡ false → encodeByte on b ≡ b ∷ []
-safe-encoded on b p = left-alone on b (inr (is-kept b p)) (eqb-false b 38 (or-right (not (isKept b)) (eqb b 38) p))
-
-safe-part : (on : Bool) (n : ℕ) (l : List ℕ) → any isUnsafe (take n l) ≡ false → encodeOf on (partOf n l) ≡ take n l
-unfolding partOf byteOf encodeOf urlByte
-safe-part on zero l p = refl
-safe-part on (suc n) [] p = refl
-safe-part on (suc n) (b ∷ l) p =
-    let s = or-left (isUnsafe b) (any isUnsafe (take n l)) p in
-    rw (safe-stays b l s, safe-encoded on b s, safe-part on n l (or-right (isUnsafe b) (any isUnsafe (take n l)) p))
-
-pub safe-block : (on : Bool) (i e : ℕ) (l : List ℕ) (x : Bool) → e ≡ i + 16 → x ≡ any isUnsafe (take 16 (drop i l)) → x ≡ false → encodeOf on (partOf 16 (drop i l)) ≡ take (e - i) (drop i l)
-safe-block on i e l x p q r = let k : e - i ≡ 16 = omega arith in rw k (safe-part on 16 (drop i l) (sym q ∙ r))
-
-pub part-block : (on : Bool) (i e : ℕ) (l : List ℕ) → e ≡ i + 16 → encodeOf on (partOf 16 (drop i l)) ≡ encodeOf on (partOf (e - i) (drop i l))
-part-block on i e l p = let k : e - i ≡ 16 = omega arith in rw k
+pub part-two : (on : Bool) (k n : ℕ) (l : List ℕ) → k ≤ n → encodeOf on (partOf n l) ≡ encodeOf on (partOf k l) ++ encodeOf on (partOf (n - k) (drop k l))
+unfolding encodeOf
+part-two on k n l h = ap (each (encodeByte on)) (part-cut k n l h) ∙ each-append (encodeByte on) (partOf k l) (partOf (n - k) (drop k l))
 
 -- ---- encoding off leaves a percent-encoded URL as it is: it holds no NUL
 

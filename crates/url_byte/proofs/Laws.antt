@@ -6,14 +6,15 @@ use mathlib.Core.List.{List, [], _∷_, append-nil}
 use Prim.Native.Nat.{ℕ, _+_, _-_, _/_, _%_, _≤_, _<_}
 use native.Mathlib.Decide.{decLt, ℕ-discrete}
 use native.Mathlib.Omega.{arith}
-use borrow.Author.Tests.{lt-ltb, le-ltb, ne-eqb, not-true, not-false}
-use lib.ListN.{length, drop, getD, length-drop}
+use borrow.Author.Tests.{leb-true, le-leb, lt-leb, lt-ltb, le-ltb, ne-eqb, not-true, not-false}
+use lib.Dec.{leb}
+use lib.ListN.{length, drop, getD, set, length-drop, length-set}
 use mir.Syntax.{w8}
 use mir.Val.{Fits}
-use Rattle.lent.specs.Bytes.{hasBit, isAlnum}
+use Rattle.lent.specs.Bytes.{hasBit, isAlnum, between}
 use Rattle.lent.specs.Fill.{Filled}
 use Rattle.lent.proofs.Computed.{agree}
-use Rattle.lent.proofs.Laws.{next, both}
+use Rattle.lent.proofs.Laws.{next, both, put-in, and-left, and-right}
 use Rattle.encode_byte.specs.Byte.{encodeByte}
 use Rattle.encode_byte.proofs.Laws.{kept, off}
 use Rattle.encode.specs.Encode.{encodeOf}
@@ -119,6 +120,46 @@ module _ (on : Bool) where
 
   pub amp-off : on ≡ false → encodeByte on 38 ≡ 38 ∷ []
   amp-off p = rw p (off 38 (omega arith))
+
+-- three bytes at once, where there is room
+pub percent-in : (d : List ℕ) (at b x y : ℕ) → x ≡ hexUpper (b / 16) → y ≡ hexUpper (b % 16) → 3 ≤ length d - at
+    → Filled d at (percent b) (set (set (set d at 37) (at + 1) x) (at + 2) y) (at + 3)
+percent-in d at b x y p q h =
+    let l = length-set d at 37 in
+    let m = length-set (set d at 37) (at + 1) x in
+    let z : at + 1 + 1 ≡ at + 2 = omega arith in
+    let w : at + 2 + 1 ≡ at + 3 = omega arith in
+    percent-put b x y p q (put-in d at 37 (omega arith)) (rw z at (put-in (set d at 37) (at + 1) x (omega arith))) (rw w at (put-in (set (set d at 37) (at + 1) x) (at + 2) y (omega arith)))
+
+-- a byte with a mark: &, ' or another
+module _ (on : Bool) (b : ℕ) where
+  pub marked-amp : b ≡ 38 → encodeOf on (urlByte (between 38 39 b) b) ≡ encodeByte on 38
+  unfolding urlByte encodeOf
+  marked-amp e = rw e (append-nil (encodeByte on 38))
+
+  pub marked-quote : b ≡ 39 → encodeOf on (urlByte (between 38 39 b) b) ≡ b ∷ []
+  unfolding urlByte encodeOf
+  marked-quote e = rw (e, kept on 39 (omega arith) (omega arith) (omega arith) (omega arith) (omega arith))
+
+  pub marked-other : Fits w8 b → (b ≡ 38 → ⊥) → (b ≡ 39 → ⊥) → encodeOf on (urlByte (between 38 39 b) b) ≡ percent b
+  unfolding urlByte
+  marked-other f m n =
+      elim (decLt b 38) [
+        | yes h ↦ rw (lt-leb 38 b h) (encode-percent on b (f .fits))
+        | no h ↦
+            let k : 39 < b = omega arith in
+            let l : 38 ≤ b = omega arith in
+            rw (le-leb 38 b l, lt-leb b 39 k) (encode-percent on b (f .fits))
+      ]
+
+pub near : (b : ℕ) → between 38 39 b ≡ true → isKept b ≡ true
+near b p =
+    let lo : 38 ≤ b = leb-true 38 b (and-left (leb 38 b) (leb b 39) p) in
+    let hi : b ≤ 39 = leb-true b 39 (and-right (leb 38 b) (leb b 39) p) in
+    elim (ℕ-discrete b 38) [
+      | yes e ↦ rw e
+      | no n ↦ let e : b ≡ 39 = omega arith in rw e
+    ]
 
 -- the masks, by a test of all bytes
 pub by-mask : (b m : ℕ) (x : Bool) → Fits w8 b → m ≡ keptMask b → x ≡ hasBit m (b % 64) → x ≡ isKept b

@@ -2,12 +2,12 @@
 ghost use Prim.Native.Nat.{_≤_, _<_};
 ghost use mathlib.Core.Path.{_≡_};
 ghost use lib.ListN.{length, drop};
-ghost use Rattle.lent.specs.Bytes.{isAlnum};
+ghost use Rattle.lent.specs.Bytes.{isAlnum, between};
 ghost use Rattle.lent.specs.Fill.{Filled};
 ghost use Rattle.encode_byte.specs.Byte.{encodeByte};
 ghost use Rattle.encode.specs.Encode.{encodeOf};
-ghost use Rattle.url_byte.specs.Byte.{isKept, twoAlnum, stays, hexUpper, percent};
-ghost use Rattle.url_byte.specs.Private.{byteOf, isUnsafe, keptMask};
+ghost use Rattle.url_byte.specs.Byte.{isKept, twoAlnum, stays, hexUpper, percent, urlByte};
+ghost use Rattle.url_byte.specs.Private.{byteOf, isApart, markOf, keptMask};
 
 // The byte at `i`. Of those that stay HTML encodes only `&`.
 pub fn put_url_byte(value: &[u8], i: usize, encode_html: bool, out: &mut [u8], at: usize) -> usize
@@ -24,6 +24,19 @@ pub fn put_url_byte(value: &[u8], i: usize, encode_html: bool, out: &mut [u8], a
     lent::put(out, at, b)
 }
 
+// A byte with a mark: of these only `&` and `'` stay.
+pub fn put_marked_byte(b: u8, encode_html: bool, out: &mut [u8], at: usize) -> usize
+    ensures { λ r. ⌜ Filled (now (out .entry)) at (encodeOf «encode_html» (urlByte (between 38 39 b) b)) (now (out .exit)) r ⌝ }
+{
+    if b == b'&' {
+        return put_ampersand(encode_html, out, at);
+    }
+    if b == b'\'' {
+        return lent::put(out, at, b);
+    }
+    put_percent(b, out, at)
+}
+
 fn put_ampersand(encode_html: bool, out: &mut [u8], at: usize) -> usize
     ensures { λ r. ⌜ Filled (now (out .entry)) at (encodeByte «encode_html» 38) (now (out .exit)) r ⌝ }
 {
@@ -37,6 +50,12 @@ fn put_ampersand(encode_html: bool, out: &mut [u8], at: usize) -> usize
 fn put_percent(b: u8, out: &mut [u8], at: usize) -> usize
     ensures { λ r. ⌜ Filled (now (out .entry)) at (percent b) (now (out .exit)) r ⌝ }
 {
+    if 3 <= lent::room(out.len(), at) {
+        out[at] = b'%';
+        out[at + 1] = hex(b / 16);
+        out[at + 2] = hex(b % 16);
+        return at + 3;
+    }
     let high = lent::put(out, at, b'%');
     let low = lent::put(out, high, hex(b / 16));
     lent::put(out, low, hex(b % 16))
@@ -101,18 +120,27 @@ fn has_two_alnum(value: &[u8], i: usize) -> bool
     is_alnum(value[i]) & is_alnum(value[i + 1])
 }
 
-// Whether a byte does not stay as it is, encoded for HTML too. No branch, so that many can be looked at together.
-pub fn is_unsafe(b: u8) -> bool
-    ensures { λ r. ⌜ r ≡ isUnsafe b ⌝ }
+// Whether a byte ends a run: it does not stay, or HTML may encode it. No branch, so that many can be looked at together.
+pub fn is_apart(b: u8) -> bool
+    ensures { λ r. ⌜ r ≡ isApart b ⌝ }
 {
     !((b == 33)
         | (b == 35)
         | (b == 36)
-        | ((38 <= b) & (b <= 59))
+        | ((40 <= b) & (b <= 59))
         | (b == 61)
         | ((63 <= b) & (b <= 90))
         | (b == 95)
         | ((97 <= b) & (b <= 122))
         | (b == 126))
-        | (b == 38)
+}
+
+// The mark of a byte by the two behind it: 0 where a run may move it as it is, a `%` before two letters or digits too.
+pub fn mark(b: u8, c: u8, d: u8) -> u8
+    ensures { λ r. ⌜ r ≡ markOf b c d ⌝ }
+{
+    if is_apart(b) & !((b == 37) & (is_alnum(c) & is_alnum(d))) {
+        return 1;
+    }
+    0
 }

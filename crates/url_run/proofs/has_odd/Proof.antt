@@ -5,16 +5,16 @@ use Prim.Native.Nat.{_+_, _-_}
 use lib.ListN.{take, drop}
 use Rattle.lent.specs.Bytes.{any}
 use Rattle.lent.proofs.Laws.{any-start, any-more, any-end}
-use Rattle.url_byte.specs.Private.{isUnsafe}
+use Rattle.url_run.specs.Private.{isOdd}
 use borrow.Author.Needs.{needs}
-use Rattle.normalize_uri.proofs.has_unsafe.Statement.{statement}
-use Rattle.normalize_uri.proofs.has_unsafe.Tie as tie
+use Rattle.url_run.proofs.has_odd.Statement.{statement}
+use Rattle.url_run.proofs.has_odd.Tie as tie
 
 abbrev Inv-loop : tie.InvT-loop
-Inv-loop value i found₀ k₀ found k = (found || any isUnsafe (take (16 - k) (drop (i + k) value))) ≡ any isUnsafe (take 16 (drop i value))
+Inv-loop value i found₀ k₀ found k = (found || any isOdd (take (64 - k) (drop (i + k) value))) ≡ any isOdd (take 64 (drop i value))
 
 abbrev μ-loop : tie.MeasureT-loop
-μ-loop value i found₀ k₀ found k = 16 - k
+μ-loop value i found₀ k₀ found k = 64 - k
 
 loop-holds : tie.Need-loop-holds Inv-loop μ-loop
 loop-holds c = search any-start
@@ -25,8 +25,8 @@ loop-again c = search any-more
 returns : tie.Need-returns Inv-loop μ-loop
 returns c = search any-end
 
-pub has-unsafe-spec : {M : Type 1} → statement M
-has-unsafe-spec =
+pub has-odd-spec : {M : Type 1} → statement M
+has-odd-spec =
     tie.close
     (tie.spec
     Inv-loop
