@@ -120,6 +120,9 @@ fn rows() -> Vec<Row> {
             "200 other URLs",
             urls(&mut random, 200, 20, 80, &["a", "b", "Z", "9", "/", "=", " ", "é", "\u{20AC}", "\u{1F44D}"]),
         ),
+        ("200 kept URLs", urls(&mut random, 200, 20, 80, &["a", "b", "Z", "9", "-", ".", "/", "note", "_", "?", "="])),
+        ("kept 64,000", links(&mut random, &LINK)),
+        ("kept 64,000 ?=#", links(&mut random, &QUERY)),
     ];
     let mut rows = Vec::new();
     let mut add = |call, ours, theirs, inputs: &[(&'static str, Vec<String>)], room| {
@@ -159,6 +162,17 @@ fn urls(random: &mut Random, count: usize, least: usize, most: usize, pieces: &[
         url
     };
     (0..count).map(|_| url()).collect()
+}
+
+/// What a link table of kept bytes is made of: bytes that the cheap test lets pass, and some that it does not.
+const LINK: [&str; 10] = ["a", "b", "Z", "9", "-", ".", "/", "packet", "note", "https://example.com/"];
+const QUERY: [&str; 10] = ["a", "b", "Z", "9", "-", ".", "/", "?", "=", "#"];
+
+/// 64,000 bytes that all stay, as one URL.
+fn links(random: &mut Random, pieces: &[&str]) -> Vec<String> {
+    let mut table = urls(random, 1, 64_000, 64_000, pieces);
+    table[0].truncate(64_000);
+    table
 }
 
 /// One side of a row, ready to be run. Both sides are first held to the same bytes.
@@ -250,8 +264,37 @@ fn main() {
     let lines = std::fs::read_to_string(file).expect("the file of instructions can be read");
     let counts: Vec<f64> = lines.lines().map(|line| line.parse().unwrap()).collect();
     print_table(&counts);
+    print_links();
     print_reader();
     checker::print_rows(counts.get(2 * rows().len()..).unwrap_or(&[]));
+}
+
+/// Tables of 64,000 kept bytes through the leaf, beside a plain copy of the same bytes and one byte by byte.
+#[cfg(not(count))]
+fn print_links() {
+    for (name, pieces) in [("links", LINK), ("links with ?=#", QUERY)] {
+        let table = links(&mut Random(SEED), &pieces).remove(0).into_bytes();
+        let room = table.len();
+        let (mut to_ours, mut to_copy, mut to_bytes) = (vec![0; room], vec![0; room], vec![0u8; room]);
+        let mut ours: Side = Box::new(|| {
+            let length = unsafe { leaf_sanitize(black_box(table.as_ptr()), room, to_ours.as_mut_ptr(), room) };
+            assert!(length == room as u64 && to_ours[room - 1] == table[room - 1]);
+        });
+        let mut copied: Side = Box::new(|| to_copy.copy_from_slice(black_box(&table)));
+        let mut stepped: Side = Box::new(|| {
+            for (to, from) in to_bytes.iter_mut().zip(&table) {
+                unsafe { std::ptr::write_volatile(to, std::ptr::read_volatile(from)) };
+            }
+        });
+        let (our_time, copy_time, _) = measure(&mut ours, &mut copied);
+        let (_, step_time, _) = measure(&mut copied, &mut stepped);
+        println!(
+            "{name}, {room} kept bytes: {:.1} bytes/ns, {:.2} of a plain copy's time, {:.2} of a copy byte by byte",
+            room as f64 / our_time,
+            our_time / copy_time,
+            our_time / step_time
+        );
+    }
 }
 
 /// How many bytes a part of the largest bundle has.

@@ -17,7 +17,7 @@ const fn family(name: &'static str, requests: fn(Ask)) -> Family {
 
 const RANDOM_SEED: u64 = 20_251_115;
 
-pub const LEAVES: [Family; 9] = [
+pub const LEAVES: [Family; 10] = [
     family("table", table),
     family("utf8", utf8),
     family("three", three),
@@ -25,6 +25,7 @@ pub const LEAVES: [Family; 9] = [
     family("rooms", rooms),
     family("schemes", schemes),
     family("places", places),
+    family("runs", runs),
     Family { name: "random", seed: Some(RANDOM_SEED), requests: random },
     family("limits", limits),
 ];
@@ -205,6 +206,30 @@ fn places(ask: Ask) {
             }
             ask(fitting(SANITIZE, 0, &[b'%', a, b], 1));
             ask(fitting(LINK, 0, &[b'%', a, b, b':'], 1));
+        }
+    }
+}
+
+/// For code that moves a run of kept bytes at once: URLs of every length up to 200, with what ends a run, or a triple, at
+/// every place. By turns the room is what is needed, one less, half, and more.
+fn runs(ask: Ask) {
+    const PIECES: [&[u8]; 10] = [b"%20", b"%2", b"%", b"%2%", b"%%aZ", b"&", b"'", b"\0", b"?=#", "é".as_bytes()];
+    let mut turn = 0;
+    for length in 1..=200 {
+        for place in 0..length {
+            for piece in PIECES {
+                let mut text: Vec<u8> = (0..length).map(|k| b"az/AZ-.09"[k % 9]).collect();
+                text.splice(place..place + 1, piece.iter().copied());
+                let needed = fitting(SANITIZE, 0, &text, 0);
+                turn = (turn + 1) % 7;
+                let room = match turn {
+                    0 => needed.room - 1,
+                    1 => needed.room / 2,
+                    2 => needed.room + 7,
+                    _ => needed.room,
+                };
+                ask(Request { room, ..needed });
+            }
         }
     }
 }

@@ -15,8 +15,16 @@ use std::fs;
 const SEED: u64 = 7;
 /// How many requests of each family are taken for each call, option and number of the answer. The limits are chosen
 /// one by one.
-const TAKEN: [(&str, usize); 7] =
-    [("table", 52), ("utf8", 50), ("short", 120), ("rooms", 50), ("schemes", 120), ("places", 25), ("random", 15)];
+const TAKEN: [(&str, usize); 8] = [
+    ("table", 52),
+    ("utf8", 50),
+    ("short", 120),
+    ("rooms", 50),
+    ("schemes", 120),
+    ("places", 25),
+    ("runs", 40),
+    ("random", 15),
+];
 /// The texts of these families are longer only seldom; the files should stay small.
 const LONGEST: usize = 400;
 /// The same for the checker: so many for each number, kind and name of the event at the refusal's place.
