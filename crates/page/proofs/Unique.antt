@@ -5,6 +5,9 @@ use Prim.Native.Nat.{ℕ}
 use Rattle.call_text_answer.specs.declared.Written.{Written}
 use Rattle.call_text_answer.specs.Written.{numberOf, valueOf, Wrote}
 use Rattle.call_text_answer.proofs.Laws as W
+use Rattle.call_normalize.specs.declared.Normalized.{Normalized}
+use Rattle.call_normalize.specs.Normalized.{HasNormalized}
+use Rattle.call_normalize.proofs.Laws as N
 use Rattle.check_list.specs.declared.Checked.{Checked}
 use Rattle.check_list.specs.Checked.{Checks}
 use Rattle.check_list.proofs.Numbers as C
@@ -30,6 +33,9 @@ equal p q = p ∙ sym q
 -- escape, sanitize, sanitize_link, sanitize_image, identity
 pub texts : {text result d e f : List ℕ} {r s : Written} → Wrote text result d e r → Wrote text result d f s → (r ≡ s) × (e ≡ f)
 texts p q = W.unique p q
+
+pub normalize : {url d e f : List ℕ} {r s : Normalized} → HasNormalized url d e r → HasNormalized url d f s → (r ≡ s) × (e ≡ f)
+normalize p q = N.unique p q
 
 pub check : {text events : List ℕ} {r s : Checked} → Checks text events r → Checks text events s → r ≡ s
 check p q = C.unique p q

@@ -12,9 +12,11 @@ ghost use Rattle.bundle_parts.specs.Feed.{standOf, startOf, feedOf, endOf};
 ghost use Rattle.check_list.specs.Checked.{Checks};
 ghost use Rattle.call_build.specs.Build.{Builds};
 ghost use Rattle.call_text_answer.specs.Written.{numberOf, valueOf, Wrote};
+ghost use Rattle.call_normalize.specs.Normalized.{HasNormalized};
 use bundle_parts::Progress;
 use bundle_parts::Reader;
 use bundle_writer::Packed;
+use call_normalize::Normalized;
 use call_text_answer::Written;
 
 // Escapes a text for HTML; without `encoding` only NUL is replaced.
@@ -43,6 +45,13 @@ pub fn sanitize_image(url: &[u8], out: &mut [u8]) -> Written
     ensures { λ r. ⌜ Wrote (now (url .entry)) (sanitizeWithProtocolsOf imageSchemes (now (url .entry))) (now (out .entry)) (now (out .exit)) r ⌝ }
 {
     call_text::sanitize_image(url, out)
+}
+
+// Percent-encodes a URL, and says how many characters it visited (RULES R11.7).
+pub fn normalize(url: &[u8], out: &mut [u8]) -> Normalized
+    ensures { λ r. ⌜ HasNormalized (now (url .entry)) (now (out .entry)) (now (out .exit)) r ⌝ }
+{
+    call_normalize::normalize(url, out)
 }
 
 // What a label is compared by.
