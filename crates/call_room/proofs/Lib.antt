@@ -1,0 +1,4 @@
+pub mod Growth
+pub mod Escaped
+pub mod Urls
+pub mod Calls
