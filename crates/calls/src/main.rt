@@ -62,6 +62,7 @@ fn serve_one(input: &mut [u8], answer: &mut [u8], work: &mut [u8]) -> bool {
 fn is_op(op: u8) -> bool {
     match op {
         1..=10 => true,
+        12 => true,
         _ => false,
     }
 }
@@ -140,6 +141,7 @@ fn respond(r: Request, n: usize, input: &[u8], answer: &mut [u8], work: &mut [u8
         8 => read(r, &input[0..n], answer, work),
         9 => write_bundle(r, &input[0..n], &input[n..], answer),
         10 => read_parts(r, &input[0..n], &input[n..], answer, work),
+        12 => normalize(r, &input[0..n], answer),
         _ => write(r, &input[0..n], answer),
     }
 }
@@ -150,6 +152,15 @@ fn write(r: Request, text: &[u8], answer: &mut [u8]) -> bool
 {
     let written = call(r, text, &mut answer[24..]);
     put_head(&mut answer[0..24], written_head(written, r.room));
+    io::write_all(1, answer)
+}
+
+// The call that percent-encodes a URL: the visits are the second number.
+fn normalize(r: Request, url: &[u8], answer: &mut [u8]) -> bool
+    requires { ⌜ 24 ≤ length (now answer) ⌝ }
+{
+    let normalized = call_normalize(url, &mut answer[24..]);
+    put_head(&mut answer[0..24], normalized_head(normalized, r.room));
     io::write_all(1, answer)
 }
 
@@ -327,6 +338,11 @@ fn call(r: Request, text: &[u8], out: &mut [u8]) -> call_text_answer::Written {
     }
 }
 
+fn call_normalize(url: &[u8], out: &mut [u8]) -> call_normalize::Normalized {
+    fill(out, 0xA5);
+    page::normalize(url, out)
+}
+
 // The answer's first 24 bytes.
 struct Head {
     number: u32,
@@ -351,6 +367,17 @@ fn written_head(w: call_text_answer::Written, room: usize) -> Head {
         number: page::number(w),
         value: page::value(w),
         second: 0,
+        edition: 0,
+        room,
+        work: 0,
+    }
+}
+
+fn normalized_head(n: call_normalize::Normalized, room: usize) -> Head {
+    Head {
+        number: call_normalize::number(n),
+        value: call_normalize::value(n),
+        second: call_normalize::visits(n),
         edition: 0,
         room,
         work: 0,
