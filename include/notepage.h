@@ -39,6 +39,12 @@ extern "C" {
 #define NOTEPAGE_MOST_BUNDLE 131584u     /* the largest bundle: 257 blocks */
 #define NOTEPAGE_STACK 65536u            /* stack that a call takes, at most */
 
+/* Room that is always enough: so many bytes for each byte of the text or the URL. With it no such call refuses with 9.
+ * Each is reached, by a text of the one byte that is named. A page has no such number: docs/PROMISES.md. */
+#define NOTEPAGE_ESCAPE_ROOM 6u    /* notepage_escape: " (without NOTEPAGE_ENCODE 3, NUL) */
+#define NOTEPAGE_SANITIZE_ROOM 5u  /* notepage_sanitize, notepage_sanitize_link, notepage_sanitize_image: & */
+#define NOTEPAGE_NORMALIZE_ROOM 3u /* notepage_normalize: a space */
+
 /* ---- Answers */
 
 /* The number is 0 where there is an answer, and the value is its length; else the number is the refusal's, and the
@@ -49,6 +55,14 @@ typedef struct notepage_answer {
     uint32_t number;
     size_t value;
 } notepage_answer;
+
+/* The same of a URL that is normalized, and how many characters were visited: a %, letter or digit, letter or digit that
+ * is kept is one visit, any other character one. They are at most as many as the URL's bytes, and 0 after a refusal. */
+typedef struct notepage_normalized {
+    uint32_t number;
+    size_t value;
+    size_t visits;
+} notepage_normalized;
 
 /* The same of a bundle that is read: the value is the text's length, or the refusal's place. The events' length in
  * bytes and the edition are 0 after a refusal. */
@@ -160,6 +174,10 @@ notepage_answer notepage_sanitize_link(const unsigned char *url, size_t url_leng
 /* The same for an image: empty for a scheme that is not http or https. */
 notepage_answer notepage_sanitize_image(const unsigned char *url, size_t url_length, unsigned char *out,
                                         size_t out_length);
+
+/* A URL percent-encoded and no more: not safe for an attribute yet. */
+notepage_normalized notepage_normalize(const unsigned char *url, size_t url_length, unsigned char *out,
+                                       size_t out_length);
 
 /* What a label is compared by. */
 notepage_answer notepage_identity(const unsigned char *label, size_t label_length, unsigned char *out,

@@ -82,6 +82,63 @@ static void texts(void)
     for (i = 0; i < sizeof all / sizeof *all; i++) HOLDS(refuses_texts(all[i]));
 }
 
+static int normalizes(const char *from, const char *to, size_t visits)
+{
+    const unsigned char *s = (const unsigned char *)from;
+    size_t n = strlen(from), m = strlen(to);
+    notepage_normalized a;
+    memset(out, 0xA5, sizeof out);
+    a = notepage_normalize(s, n, out, ROOM);
+    if (a.number || a.value != m || a.visits != visits || memcmp(out, to, m)) return 0;
+    if (!all_are(out + m, ROOM - m, 0) || out[ROOM] != 0xA5 || m == 0) return m == 0;
+    memset(out, 0xA5, sizeof out);
+    a = notepage_normalize(s, n, out, m - 1);
+    return a.number == NOTEPAGE_NO_ROOM && a.value == 0 && a.visits == 0 && all_are(out, m - 1, 0) && out[m - 1] == 0xA5;
+}
+
+static notepage_answer normalized(const unsigned char *s, size_t n, unsigned char *d, size_t room)
+{
+    notepage_normalized a = notepage_normalize(s, n, d, room);
+    notepage_answer same;
+    same.number = a.number;
+    same.value = a.value;
+    return same;
+}
+
+static void normal_urls(void)
+{
+    HOLDS(normalizes("", "", 0));
+    HOLDS(normalizes("\xC3\xA9", "%C3%A9", 1));
+    HOLDS(normalizes("%20", "%20", 1));
+    HOLDS(normalizes("%%20", "%25%20", 2));
+    HOLDS(normalizes("%2", "%252", 2));
+    HOLDS(normalizes("a b&c", "a%20b&c", 5));
+    HOLDS(refuses_texts(normalized));
+}
+
+/* Of the byte that needs most, in the room that is always enough, and in one byte less. */
+static int takes(text_call call, unsigned char byte, size_t most)
+{
+    unsigned char *s = lend(NOTEPAGE_MOST_TEXT), *d = lend(most * NOTEPAGE_MOST_TEXT);
+    int right;
+    memset(s, byte, NOTEPAGE_MOST_TEXT);
+    right = is(call(s, NOTEPAGE_MOST_TEXT, d, most * NOTEPAGE_MOST_TEXT), NOTEPAGE_OK, most * NOTEPAGE_MOST_TEXT)
+        && is(call(s, NOTEPAGE_MOST_TEXT, d, most * NOTEPAGE_MOST_TEXT - 1), NOTEPAGE_NO_ROOM, 0);
+    free(s);
+    free(d);
+    return right;
+}
+
+static void rooms(void)
+{
+    HOLDS(takes(encoded, '"', NOTEPAGE_ESCAPE_ROOM));
+    HOLDS(takes(bare, 0, 3));
+    HOLDS(takes(notepage_sanitize, '&', NOTEPAGE_SANITIZE_ROOM));
+    HOLDS(takes(notepage_sanitize_link, '&', NOTEPAGE_SANITIZE_ROOM));
+    HOLDS(takes(notepage_sanitize_image, '&', NOTEPAGE_SANITIZE_ROOM));
+    HOLDS(takes(normalized, ' ', NOTEPAGE_NORMALIZE_ROOM));
+}
+
 /* Event records, one behind the other. */
 static unsigned char list[64 * NOTEPAGE_RECORD];
 static size_t listed;
@@ -333,6 +390,8 @@ int main(int count, char **words)
     folder = words[1];
     about();
     texts();
+    normal_urls();
+    rooms();
     one_paragraph();
     options();
     sample_note();

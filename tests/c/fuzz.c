@@ -200,6 +200,20 @@ static void try_text(size_t call)
     HOLDS(sum(s, n) == before && zero_behind(a, out, room));
 }
 
+static void try_normalize(void)
+{
+    const seed *from = some_of(&texts);
+    size_t n, room;
+    unsigned char *s = input(0, one_in(2), from->text, from->text_length, &n), *out = output(1, &room);
+    uint64_t before = sum(s, n);
+    notepage_normalized a = notepage_normalize(s, n, out, room);
+    notepage_answer plain;
+    plain.number = a.number;
+    plain.value = a.value;
+    count(11, a.number);
+    HOLDS(sum(s, n) == before && zero_behind(plain, out, room) && a.visits <= (a.number ? 0 : n));
+}
+
 static void try_check(void)
 {
     const seed *from = some_of(&notes);
@@ -328,7 +342,7 @@ static void report(unsigned long calls)
 {
     static const char *const names[] = {"escape",        "sanitize",  "sanitize_link",   "sanitize_image",
                                         "identity",      "check",     "build",           "read_bundle",
-                                        "write_bundle",  "in parts",  "a made-up state"};
+                                        "write_bundle",  "in parts",  "a made-up state", "normalize"};
     size_t call, number;
     for (call = 0; call < sizeof names / sizeof *names; call++) {
         printf("%-16s", names[call]);
@@ -349,14 +363,15 @@ int main(int words, char **word)
     make_arenas();
     learn(word[3]);
     for (i = 0; i < calls; i++) {
-        size_t call = below(11);
+        size_t call = below(12);
         if (call < 5) try_text(call);
         else if (call == 5) try_check();
         else if (call == 6) try_build();
         else if (call == 7) try_read();
         else if (call == 8) try_write();
         else if (call == 9) try_parts();
-        else try_wild_state();
+        else if (call == 10) try_wild_state();
+        else try_normalize();
         if (failed) break;
     }
     report(i);

@@ -45,6 +45,12 @@ static head plain(notepage_answer a, size_t room, size_t work)
     return h;
 }
 
+static head of_normalized(notepage_normalized n, size_t room)
+{
+    head h = {n.number, n.value, n.visits, 0, room, 0};
+    return h;
+}
+
 static head of_read(notepage_read r, const request *q)
 {
     head h = {r.number, r.value, r.events, r.edition, q->room, q->work};
@@ -94,6 +100,7 @@ static head made(const request *q)
     case 8: return of_read(notepage_read_bundle(t, n, out, q->room, second, q->work), q);
     case 9: return plain(notepage_write_bundle(t, n, e, m, q->edition, out, q->room), q->room, 0);
     case 10: return in_parts(q);
+    case 12: return of_normalized(notepage_normalize(t, n, out, q->room), q->room);
     default: give_up("a request of a call that this test does not know");
     }
     return plain(notepage_check(NULL, 0, NULL, 0), 0, 0);

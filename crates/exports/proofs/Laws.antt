@@ -24,6 +24,7 @@ use Rattle.machine.specs.declared.Ending.{Ending}
 use Rattle.machine.specs.declared.Ending.the-variants.{Lf, Cr, CrLf}
 use Rattle.machine.specs.declared.Options.{Options}
 use Rattle.exports.specs.declared.NotepageAnswer.{NotepageAnswer}
+use Rattle.exports.specs.declared.NotepageNormalized.{NotepageNormalized}
 use Rattle.exports.specs.declared.NotepageRead.{NotepageRead}
 use Rattle.exports.specs.declared.NotepageReader.{NotepageReader}
 use Rattle.exports.specs.Told.{Told, ofWritten, ofBuilt, ofRead, ofProgress, isDone}
@@ -34,6 +35,10 @@ use Rattle.exports.specs.Reader.{isSet, refusalOf, answerOf, progressOf,
 
 pub answers : {n v m u : ℕ} → n ≡ m → v ≡ u → _≡_ {A = NotepageAnswer} (record { number = n; value = v }) (record { number = m; value = u })
 answers p q = rw (p, q)
+
+pub normalizes : {n v w n′ v′ w′ : ℕ} → n ≡ n′ → v ≡ v′ → w ≡ w′
+    → _≡_ {A = NotepageNormalized} (record { number = n; value = v; visits = w }) (record { number = n′; value = v′; visits = w′ })
+normalizes p q s = rw (p, q, s)
 
 pub reads : {n d v e n′ d′ v′ e′ : ℕ} → n ≡ n′ → d ≡ d′ → v ≡ v′ → e ≡ e′
     → _≡_ {A = NotepageRead} (record { number = n; edition = d; value = v; events = e }) (record { number = n′; edition = d′; value = v′; events = e′ })

@@ -9,11 +9,13 @@ use Rattle.call_build.specs.Build.{Builds}
 use Rattle.check_list.specs.Checked.{Checks}
 use Rattle.machine.specs.declared.Options.{Options}
 use Rattle.call_text_answer.specs.Written.{Wrote}
+use Rattle.call_normalize.specs.Normalized.{HasNormalized}
 use Rattle.page.proofs.Unique as P
 use Rattle.exports.specs.declared.NotepageAnswer.{NotepageAnswer}
+use Rattle.exports.specs.declared.NotepageNormalized.{NotepageNormalized}
 use Rattle.exports.specs.declared.NotepageRead.{NotepageRead}
 use Rattle.exports.specs.declared.NotepageReader.{NotepageReader}
-use Rattle.exports.specs.Told.{Told, ofWritten, ofChecked, ofBuilt, ofPacked, ofRead, ofProgress}
+use Rattle.exports.specs.Told.{Told, ofWritten, ofNormalized, ofChecked, ofBuilt, ofPacked, ofRead, ofProgress}
 use Rattle.exports.specs.Reader.{readerOf}
 
 -- of one answer C is told one thing
@@ -23,6 +25,9 @@ same {tell = tell} x y e = x .tells ∙ ap tell e ∙ sym (y .tells)
 -- notepage_escape, notepage_sanitize, notepage_sanitize_link, notepage_sanitize_image, notepage_identity
 pub texts : {text result d e f : List ℕ} {r s : NotepageAnswer} → Told (Wrote text result d e) ofWritten r → Told (Wrote text result d f) ofWritten s → (r ≡ s) × (e ≡ f)
 texts p q = let u = P.texts (p .meets) (q .meets) in (same p q (u .0), u .1)
+
+pub «notepage_normalize» : {url d e f : List ℕ} {r s : NotepageNormalized} → Told (HasNormalized url d e) ofNormalized r → Told (HasNormalized url d f) ofNormalized s → (r ≡ s) × (e ≡ f)
+«notepage_normalize» p q = let u = P.normalize (p .meets) (q .meets) in (same p q (u .0), u .1)
 
 pub «notepage_check» : {text events : List ℕ} {r s : NotepageAnswer} → Told (Checks text events) ofChecked r → Told (Checks text events) ofChecked s → r ≡ s
 «notepage_check» p q = same p q (P.check (p .meets) (q .meets))

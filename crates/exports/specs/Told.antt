@@ -13,7 +13,10 @@ use Rattle.call_build_answer.specs.declared.Built.{Built}
 use Rattle.call_build_answer.specs.Built as B
 use Rattle.call_text_answer.specs.declared.Written.{Written}
 use Rattle.call_text_answer.specs.Written as W
+use Rattle.call_normalize.specs.declared.Normalized.{Normalized}
+use Rattle.call_normalize.specs.Normalized as N
 use Rattle.exports.specs.declared.NotepageAnswer.{NotepageAnswer}
+use Rattle.exports.specs.declared.NotepageNormalized.{NotepageNormalized}
 use Rattle.exports.specs.declared.NotepageRead.{NotepageRead}
 
 -- the call's own promise holds of an answer, and C is told that answer
@@ -24,6 +27,9 @@ pub record Told {A T : Type 0} (promise : A → Type 0) (tell : A → T) (r : T)
 
 abbrev pub ofWritten : Written → NotepageAnswer
 ofWritten w = record { number = W.numberOf w; value = W.valueOf w }
+
+abbrev pub ofNormalized : Normalized → NotepageNormalized
+ofNormalized n = record { number = N.numberOf n; value = N.valueOf n; visits = N.visitsIn n }
 
 abbrev pub ofChecked : Checked → NotepageAnswer
 ofChecked c = record { number = C.numberOf c; value = C.placeOf c }

@@ -12,7 +12,8 @@ ghost use Rattle.bundle_parts.specs.Feed.{standOf, startOf, feedOf, endOf};
 ghost use Rattle.check_list.specs.Checked.{Checks};
 ghost use Rattle.call_build.specs.Build.{Builds};
 ghost use Rattle.call_text_answer.specs.Written.{Wrote};
-ghost use Rattle.exports.specs.Told.{Told, ofWritten, ofChecked, ofBuilt, ofPacked, ofRead, ofProgress, isDone};
+ghost use Rattle.call_normalize.specs.Normalized.{HasNormalized};
+ghost use Rattle.exports.specs.Told.{Told, ofWritten, ofNormalized, ofChecked, ofBuilt, ofPacked, ofRead, ofProgress, isDone};
 ghost use Rattle.exports.specs.Given.{hasBit, endingOf, namesOf, optionsOf};
 ghost use Rattle.exports.specs.Reader.{refusalOf, answerOf, progressOf, knownOf, readerOf};
 use bundle_block::Refusal;
@@ -23,6 +24,7 @@ use bundle_parts::State;
 use bundle_read::Answer;
 use bundle_writer::Packed;
 use call_build_answer::Built;
+use call_normalize::Normalized;
 use call_text_answer::Written;
 use character_reference::Names;
 use check_list::Checked;
@@ -40,6 +42,14 @@ const MORE: u32 = 255;
 pub struct NotepageAnswer {
     pub number: u32,
     pub value: usize,
+}
+
+// The number, the URL's length or the refusal's place, and how many characters were visited.
+#[repr(C)]
+pub struct NotepageNormalized {
+    pub number: u32,
+    pub value: usize,
+    pub visits: usize,
 }
 
 // The number; the text's length or the refusal's place, the events' length in bytes, and the edition.
@@ -205,6 +215,15 @@ pub extern "C" fn notepage_sanitize_image(url: &[u8], out: &mut [u8]) -> Notepag
     tell_written(written)
 }
 
+// Percent-encodes a URL, and says how many characters it visited (RULES R11.7).
+#[no_mangle]
+pub extern "C" fn notepage_normalize(url: &[u8], out: &mut [u8]) -> NotepageNormalized
+    ensures { λ r. ⌜ Told (HasNormalized (now (url .entry)) (now (out .entry)) (now (out .exit))) ofNormalized r ⌝ }
+{
+    let normalized = page::normalize(url, out);
+    tell_normalized(normalized)
+}
+
 // What a label is compared by.
 #[no_mangle]
 pub extern "C" fn notepage_identity(label: &[u8], out: &mut [u8]) -> NotepageAnswer
@@ -222,6 +241,16 @@ fn tell_written(w: Written) -> NotepageAnswer
     NotepageAnswer {
         number: page::number(w),
         value: page::value(w),
+    }
+}
+
+fn tell_normalized(n: Normalized) -> NotepageNormalized
+    ensures { λ r. ⌜ r ≡ ofNormalized n ⌝ }
+{
+    NotepageNormalized {
+        number: call_normalize::number(n),
+        value: call_normalize::value(n),
+        visits: call_normalize::visits(n),
     }
 }
 
