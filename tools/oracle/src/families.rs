@@ -46,7 +46,7 @@ fn fitting(op: u8, options: u8, text: &[u8], more: usize) -> Request {
 }
 
 /// Hands on `text` and every text that is it and up to `most` characters behind it.
-fn every(alphabet: &str, most: usize, text: &mut String, with: &mut dyn FnMut(&[u8])) {
+pub fn every(alphabet: &str, most: usize, text: &mut String, with: &mut dyn FnMut(&[u8])) {
     with(text.as_bytes());
     if most == 0 {
         return;
@@ -254,7 +254,7 @@ fn random(ask: Ask) {
 
 /// A text of up to 40 bytes, now and then of 2,000, all of pieces of a URL, of a text or of a label, or of any characters,
 /// with spaces between; one in ten has a damaged byte.
-fn random_text(random: &mut Random) -> Vec<u8> {
+pub fn random_text(random: &mut Random) -> Vec<u8> {
     let pieces = random.pick(&[
         "http https irc mailto javascript : :// / ? # & % %2 %20 %zz %C3%A9 %é a Z 0 . - _ ~ ! ' ( [ \\ | \" < > é \u{1F44D}",
         "a the word \n \t & < > \" ' &amp; \0 é \u{20AC} \u{1F980}",

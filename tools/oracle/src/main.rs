@@ -20,6 +20,7 @@ mod given;
 mod grammar;
 mod judge;
 mod lists;
+mod normalized;
 mod notes;
 mod page_limits;
 mod page_table;
@@ -44,9 +45,9 @@ use families::LEAVES;
 use std::process::exit;
 use std::time::Instant;
 
-const USAGE: &str = "usage: oracle leaves|bundles|parts|writes|checks PROGRAM WORDS... | \
+const USAGE: &str = "usage: oracle leaves|bundles|parts|writes|normalize|checks PROGRAM WORDS... | \
     oracle builds all|FAMILY,.. PROGRAM WORDS... | oracle files PROGRAM WORDS... <PATHS | oracle alone | \
-    oracle vectors|build-vectors|part-vectors|write-vectors DIR | oracle references <NAMES | \
+    oracle vectors|build-vectors|part-vectors|write-vectors|normalize-vectors DIR | oracle references <NAMES | \
     oracle export|compile OPTIONS ENDING";
 
 fn main() {
@@ -57,6 +58,7 @@ fn main() {
         ["bundles", _, ..] => exit(i32::from(cases::compare("bundle", &bundle::FAMILIES, &words[1..]) > 0)),
         ["parts", _, ..] => exit(i32::from(cases::compare("parts", &part_families::FAMILIES, &words[1..]) > 0)),
         ["writes", _, ..] => exit(i32::from(writes::compare(&words[1..]) > 0)),
+        ["normalize", _, ..] => exit(i32::from(normalized::compare(&words[1..]) > 0)),
         ["checks", _, ..] => checks(&words[1..]),
         ["builds", families, _, ..] => builds(families, &words[2..]),
         ["files", _, ..] => exit(i32::from(files::compare(&words[1..]) > 0)),
@@ -65,6 +67,7 @@ fn main() {
         ["build-vectors", folder] => vectors::append(folder, &build_vectors::chosen(), 3_000_000),
         ["part-vectors", folder] => vectors::append(folder, &part_vectors::fixed(), 3_500_000),
         ["write-vectors", folder] => vectors::append(folder, &writes::fixed(), 700_000),
+        ["normalize-vectors", folder] => vectors::append(folder, &normalized::fixed(), 400_000),
         ["references"] => references::print(),
         ["export", bits, ending] => export::print(page_options(bits, ending)),
         ["compile", bits, ending] => compile::print(page_options(bits, ending)),
