@@ -18,6 +18,7 @@ mod families;
 mod files;
 mod given;
 mod grammar;
+mod growth;
 mod judge;
 mod lists;
 mod normalized;
@@ -48,6 +49,7 @@ use std::time::Instant;
 const USAGE: &str = "usage: oracle leaves|bundles|parts|writes|normalize|checks PROGRAM WORDS... | \
     oracle builds all|FAMILY,.. PROGRAM WORDS... | oracle files PROGRAM WORDS... <PATHS | oracle alone | \
     oracle vectors|build-vectors|part-vectors|write-vectors|normalize-vectors DIR | oracle references <NAMES | \
+    oracle growth | \
     oracle export|compile OPTIONS ENDING";
 
 fn main() {
@@ -68,6 +70,7 @@ fn main() {
         ["part-vectors", folder] => vectors::append(folder, &part_vectors::fixed(), 3_500_000),
         ["write-vectors", folder] => vectors::append(folder, &writes::fixed(), 700_000),
         ["normalize-vectors", folder] => vectors::append(folder, &normalized::fixed(), 400_000),
+        ["growth"] => growth::print(),
         ["references"] => references::print(),
         ["export", bits, ending] => export::print(page_options(bits, ending)),
         ["compile", bits, ending] => compile::print(page_options(bits, ending)),
