@@ -55,6 +55,13 @@ pub const LEAST_READ: usize = 64_000;
 pub const BLOCK: usize = 512;
 /// The bytes of the largest bundle: 257 blocks.
 pub const MOST_BUNDLE: usize = 257 * BLOCK;
+/// Room that [`escape`] never refuses, for each byte of the text; a text of `"` alone takes it.
+pub const ESCAPE_ROOM: usize = 6;
+/// Room that [`sanitize`], [`sanitize_link`] and [`sanitize_image`] never refuse, for each byte of the URL; one of `&`
+/// alone takes it.
+pub const SANITIZE_ROOM: usize = 5;
+/// Room that [`normalize`] never refuses, for each byte of the URL; one of spaces alone takes it.
+pub const NORMALIZE_ROOM: usize = 3;
 
 /// The version of the library that is linked: 10,000 times the first number, 100 times the second, and the third.
 pub fn version() -> u32 {
@@ -111,10 +118,11 @@ pub fn build<'a>(
     Ok(unsafe { core::str::from_utf8_unchecked(page) })
 }
 
-/// A text made safe for HTML; without `encoding` NUL alone is replaced. Refusals 1, 2, 9.
+/// A text made safe for HTML; without `encoding` NUL alone is replaced. Refusals 1, 2, 9; no 9 where `out` has
+/// [`ESCAPE_ROOM`] bytes for each of the text's.
 ///
 /// ```
-/// let mut out = [0; 64];
+/// let mut out = [0; 5 * notepage::ESCAPE_ROOM];
 /// assert_eq!(notepage::escape(b"a < b", true, &mut out), Ok("a &lt; b"));
 /// ```
 pub fn escape<'a>(text: &[u8], encoding: bool, out: &'a mut [u8]) -> Result<&'a str, Refusal> {
@@ -139,10 +147,11 @@ fn sanitized<'a>(call: Sanitizes, url: &[u8], out: &'a mut [u8]) -> Result<&'a s
     Ok(unsafe { core::str::from_utf8_unchecked(made) })
 }
 
-/// A URL made safe for an attribute. Refusals 1, 2, 9.
+/// A URL made safe for an attribute. Refusals 1, 2, 9; no 9 where `out` has [`SANITIZE_ROOM`] bytes for each of the
+/// URL's.
 ///
 /// ```
-/// let mut out = [0; 64];
+/// let mut out = [0; 5 * notepage::SANITIZE_ROOM];
 /// assert_eq!(notepage::sanitize(b"a b&c", &mut out), Ok("a%20b&amp;c"));
 /// ```
 pub fn sanitize<'a>(url: &[u8], out: &'a mut [u8]) -> Result<&'a str, Refusal> {
@@ -167,6 +176,35 @@ pub fn sanitize_link<'a>(url: &[u8], out: &'a mut [u8]) -> Result<&'a str, Refus
 /// ```
 pub fn sanitize_image<'a>(url: &[u8], out: &'a mut [u8]) -> Result<&'a str, Refusal> {
     sanitized(raw::notepage_sanitize_image, url, out)
+}
+
+/// A URL that was normalized.
+#[derive(Clone, Copy, Debug, PartialEq, Eq)]
+pub struct Normalized<'a> {
+    /// The URL, percent-encoded.
+    pub url: &'a str,
+    /// How many characters were visited: a kept `%` triple counts as one. At most the bytes that were given.
+    pub visits: usize,
+}
+
+/// A URL percent-encoded and no more: not safe for an attribute yet. Refusals 1, 2, 9; no 9 where `out` has
+/// [`NORMALIZE_ROOM`] bytes for each of the URL's.
+///
+/// ```
+/// let mut out = [0; 4 * notepage::NORMALIZE_ROOM];
+/// let made = notepage::normalize(b"%%20", &mut out)?;
+/// assert_eq!((made.url, made.visits), ("%25%20", 2));
+/// # Ok::<(), notepage::Refusal>(())
+/// ```
+pub fn normalize<'a>(url: &[u8], out: &'a mut [u8]) -> Result<Normalized<'a>, Refusal> {
+    // SAFETY: both are slices, and do not overlap.
+    let answer = unsafe { raw::notepage_normalize(url.as_ptr(), url.len(), out.as_mut_ptr(), out.len()) };
+    let raw::Normalized { number, value, visits } = answer;
+    let made = &out[..raw::Answer { number, value }.length()?];
+    // SAFETY: `HasNormalized` says that these bytes are `normalizeOf` of the URL: the theorem `normalized`
+    // (crates/machine_clean/proofs/Urls.antt) says that they are UTF-8, whatever its bytes.
+    let url = unsafe { core::str::from_utf8_unchecked(made) };
+    Ok(Normalized { url, visits })
 }
 
 /// What a label is compared by, as bytes: that they are UTF-8 is no theorem yet. Refusals 1, 2, 9.

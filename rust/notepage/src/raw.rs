@@ -9,6 +9,15 @@ pub struct Answer {
     pub value: usize,
 }
 
+/// A URL's length or a refusal's number and place, and the visits.
+#[repr(C)]
+#[derive(Clone, Copy)]
+pub struct Normalized {
+    pub number: u32,
+    pub value: usize,
+    pub visits: usize,
+}
+
 /// A text's length, the events' length in bytes and the edition, or a refusal's number and place.
 #[repr(C)]
 #[derive(Clone, Copy)]
@@ -88,6 +97,7 @@ extern "C" {
     pub fn notepage_sanitize(url: *const u8, length: usize, out: *mut u8, out_length: usize) -> Answer;
     pub fn notepage_sanitize_link(url: *const u8, length: usize, out: *mut u8, out_length: usize) -> Answer;
     pub fn notepage_sanitize_image(url: *const u8, length: usize, out: *mut u8, out_length: usize) -> Answer;
+    pub fn notepage_normalize(url: *const u8, length: usize, out: *mut u8, out_length: usize) -> Normalized;
     pub fn notepage_identity(label: *const u8, length: usize, out: *mut u8, out_length: usize) -> Answer;
     pub fn notepage_version() -> u32;
 }

@@ -67,8 +67,13 @@ fn a_refusal_leaves_zeros_and_so_does_what_is_behind_a_page() {
 fn the_builder_lends_more_room_where_a_page_needs_it() {
     let bundle = file("samples/refused-09.bundle");
     let mut builder = Builder::new(Options::default());
-    assert!(builder.build_bundle(&bundle).unwrap().len() > 65_536);
+    let length = builder.build_bundle(&bundle).unwrap().len();
+    assert!(length > 65_536);
     assert_eq!(builder.build(b"a", &paragraph(1)), Ok("<p>a</p>"), "and is used again");
+    let mut exact = Builder::new(Options::default()).with_most_room(length);
+    assert_eq!(exact.build_bundle(&bundle).unwrap().len(), length, "the most is lent");
+    let mut short = Builder::new(Options::default()).with_most_room(length - 1);
+    assert_eq!(short.build_bundle(&bundle).unwrap_err().number, 9, "and no more");
     let mut small = Builder::new(Options::default()).with_most_room(0);
     assert_eq!(small.build(b"", &[]), Ok(""));
     assert_eq!(small.build(b"a", &paragraph(1)).unwrap_err().number, 9);
@@ -175,6 +180,42 @@ fn texts_are_made_safe() {
 }
 
 #[test]
+fn a_url_is_normalized_and_its_visits_are_counted() {
+    let mut out = [7; 20];
+    let cases = [("é", "%C3%A9", 1), ("%20", "%20", 1), ("%%20", "%25%20", 2), ("%2", "%252", 2), ("", "", 0)];
+    for (url, made, visits) in cases {
+        assert_eq!(normalize(url.as_bytes(), &mut out), Ok(Normalized { url: made, visits }));
+    }
+    assert_eq!(normalize("é".as_bytes(), &mut out[..5]), Err(refused(9, 0)));
+    assert_eq!(out[..5], [0; 5]);
+    assert_eq!(normalize(b"\xff", &mut out), Err(refused(2, 0)));
+    assert_eq!(normalize(&[b'a'; MOST_TEXT + 1], &mut out), Err(refused(1, 0)));
+}
+
+/// The bytes that need it all, with the room that is always enough and with one byte less.
+#[test]
+fn no_text_needs_more_room_than_is_said() {
+    type Call = fn(&[u8], &mut [u8]) -> Result<usize, Refusal>;
+    let calls: [(u8, usize, Call); 5] = [
+        (b'"', ESCAPE_ROOM, |text, out| escape(text, true, out).map(str::len)),
+        (b'&', SANITIZE_ROOM, |url, out| sanitize(url, out).map(str::len)),
+        (b'&', SANITIZE_ROOM, |url, out| sanitize_link(url, out).map(str::len)),
+        (b'&', SANITIZE_ROOM, |url, out| sanitize_image(url, out).map(str::len)),
+        (b' ', NORMALIZE_ROOM, |url, out| normalize(url, out).map(|made| made.url.len())),
+    ];
+    for (byte, most, call) in calls {
+        for length in [0, 1, 17, MOST_TEXT] {
+            let (text, mut out) = (vec![byte; length], vec![7; most * length]);
+            assert_eq!(call(&text, &mut out), Ok(most * length));
+            let less = out.len().saturating_sub(1);
+            assert_eq!(call(&text, &mut out[..less]), if length == 0 { Ok(0) } else { Err(refused(9, 0)) });
+        }
+        let any: Vec<u8> = (0..=127).cycle().take(1_000).collect();
+        assert!(call(&any, &mut vec![7; most * any.len()]).is_ok(), "no byte takes more");
+    }
+}
+
+#[test]
 fn threads_do_not_meet() {
     let (bundle, page) = (file("samples/note.bundle"), file("crates/notepage/stdout"));
     std::thread::scope(|scope| {
@@ -212,6 +253,9 @@ fn the_header_says_the_same() {
         ("LEAST_READ", LEAST_READ),
         ("BLOCK", BLOCK),
         ("MOST_BUNDLE", MOST_BUNDLE),
+        ("ESCAPE_ROOM", ESCAPE_ROOM),
+        ("SANITIZE_ROOM", SANITIZE_ROOM),
+        ("NORMALIZE_ROOM", NORMALIZE_ROOM),
         ("VERSION", version() as usize),
     ];
     ours.iter().for_each(|&(name, value)| assert_eq!(constant(name), value, "{name}"));
