@@ -69,7 +69,7 @@ fn main() {
         ["build-vectors", folder] => vectors::append(folder, &build_vectors::chosen(), 3_000_000),
         ["part-vectors", folder] => vectors::append(folder, &part_vectors::fixed(), 3_500_000),
         ["write-vectors", folder] => vectors::append(folder, &writes::fixed(), 700_000),
-        ["normalize-vectors", folder] => vectors::append(folder, &normalized::fixed(), 400_000),
+        ["normalize-vectors", folder] => vectors::append(folder, &normalized::stored(), 400_000),
         ["growth"] => growth::print(),
         ["references"] => references::print(),
         ["export", bits, ending] => export::print(page_options(bits, ending)),
