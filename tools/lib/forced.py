@@ -15,7 +15,7 @@ use Prim.Native.String.{String}
 use Rattle.event.specs.declared.Event.{Event}
 
 pub data Opts : Type 0 where
-  off html protocol images on : Opts
+  off html protocol images on quoted quotedOn : Opts
 
 pub data End : Type 0 where
   Lf Cr CrLf : End
@@ -52,11 +52,13 @@ endOf K.Cr = Cr
 endOf K.CrLf = CrLf
 
 abbrev optsOf : ℕ → Opts → Ending → Options
-optsOf m K.off e = optionsOf m false false false e
-optsOf m K.html e = optionsOf m true false false e
-optsOf m K.protocol e = optionsOf m false true false e
-optsOf m K.images e = optionsOf m false false true e
-optsOf m K.on e = optionsOf m true true true e
+optsOf m K.off e = optionsOf m false false false false e
+optsOf m K.html e = optionsOf m false true false false e
+optsOf m K.protocol e = optionsOf m false false true false e
+optsOf m K.images e = optionsOf m false false false true e
+optsOf m K.on e = optionsOf m false true true true e
+optsOf m K.quoted e = optionsOf m true false false false e
+optsOf m K.quotedOn e = optionsOf m true true true true e
 
 abbrev holds : Options → Case → Bool
 holds o c = elim (c .panics) [ true ↦ stops o (c .text) (c .events) | false ↦ shows o (c .text) (c .events) (c .page) ]
@@ -76,8 +78,8 @@ UNWANTED = ('CodeText', 'Examples', 'Outcomes', 'Pushes')
 ANSWERED = '''test (forced k q) t s = if eqb (t .options .forced) (k + k + 1) then go true else \
 if eqb (t .options .forced) (k + k + 2) then go false else test q t s
 test (is f) t s ='''
-OPTIONS = ' options : (html protocol images : Bool) → Ending → Options\noptions h p i e = '
-OPTIONS_OF = ' optionsOf : ℕ → (html protocol images : Bool) → Ending → Options\noptionsOf m h p i e = '
+OPTIONS = ' optionsWith : (apostrophes html protocol images : Bool) → Ending → Options\noptionsWith a h p i e ='
+OPTIONS_OF = ' optionsOf : ℕ → (apostrophes html protocol images : Bool) → Ending → Options\noptionsOf m a h p i e ='
 CHANGES = [
     ('machine/src/lib.rt', 'pub struct Options {\n', 'pub struct Options {\n    pub forced: u64,\n'),
     ('machine/specs/Test.antt', '  isEmptyItem : Test\n', '  isEmptyItem : Test\n  forced : ℕ → Test → Test\n'),
@@ -85,8 +87,8 @@ CHANGES = [
     ('machine/specs/Test.antt', 'use Prim.Native.Nat.{ℕ}',
      'use Prim.Native.Nat.{ℕ, _+_}\nuse Rattle.lent.specs.Bytes.{if_then_else_}'),
     ('machine/proofs/Answers.antt', 'older e = record {', 'older e = record { forced = 0;'),
-    ('machine/proofs/Answers.antt', f'{OPTIONS}record {{', f'{OPTIONS_OF}record {{ forced = m;'),
-    ('machine/proofs/Answers.antt', 'abbrev pub off :', f'abbrev pub{OPTIONS}optionsOf 0 h p i e\n\nabbrev pub off :'),
+    ('machine/proofs/Answers.antt', f'{OPTIONS}\n    record {{', f'{OPTIONS_OF}\n    record {{ forced = m;'),
+    ('machine/proofs/Answers.antt', 'abbrev pub options :', f'abbrev pub{OPTIONS} optionsOf 0 a h p i e\n\nabbrev pub options :'),
 ]
 # pages of its own kind, which are looked at first
 NEAR = {
@@ -198,7 +200,7 @@ class Forced:
 
 def case_lines(found):
     names = [name for name, *_ in found]
-    used = f'Case, shows, stops, off, html, protocol, images, on, Lf, Cr, CrLf, {EVENTS}'
+    used = f'Case, shows, stops, off, html, protocol, images, on, quoted, quotedOn, Lf, Cr, CrLf, {EVENTS}'
     lines = f'use mathlib.Core.List.{{List, [], _∷_}}\nuse Rattle.cases.specs.Case.{{{used}}}\n\n'
     for name, kind, options, rest in found:
         lines += f'unfoldable pub {name} : Case\n{name} = {kind} {options} {rest}\n\n'

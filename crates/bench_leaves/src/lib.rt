@@ -1,5 +1,5 @@
 // What is measured alone, beside the Rust: no part of the library that is shipped.
-ghost use mathlib.Core.Bool.{true};
+ghost use mathlib.Core.Bool.{false};
 ghost use Prim.Native.Nat.{_<_};
 ghost use lib.ListN.{length};
 ghost use Rattle.lent.specs.Fill.{Filled};
@@ -9,20 +9,21 @@ ghost use Rattle.bench_leaves.specs.Numbered.{HasNumber, HasNumberLate};
 ghost use Rattle.bench_leaves.specs.Cut.{Cut};
 use bundle_parts::Progress;
 use bundle_parts::Reader;
+use encode_byte::Escaping;
 
 // The leaf alone: no test for UTF-8, nothing cleared behind the answer.
 #[no_mangle]
 pub extern "C" fn leaf_encode(text: &[u8], out: &mut [u8]) -> usize
-    ensures { λ r. ⌜ Filled (now (out .entry)) 0 (encodeOf true (now (text .entry))) (now (out .exit)) r ⌝ }
+    ensures { λ r. ⌜ Filled (now (out .entry)) 0 (encodeOf Escaping.Html (now (text .entry))) (now (out .exit)) r ⌝ }
 {
-    encode::encode(text, true, out, 0)
+    encode::encode(text, Escaping::Html, out, 0)
 }
 
 #[no_mangle]
 pub extern "C" fn leaf_sanitize(url: &[u8], out: &mut [u8]) -> usize
-    ensures { λ r. ⌜ Filled (now (out .entry)) 0 (sanitizeOf (now (url .entry))) (now (out .exit)) r ⌝ }
+    ensures { λ r. ⌜ Filled (now (out .entry)) 0 (sanitizeOf false (now (url .entry))) (now (out .exit)) r ⌝ }
 {
-    sanitize_uri::sanitize(url, out, 0)
+    sanitize_uri::sanitize(url, false, out, 0)
 }
 
 // Reads a bundle; the answer is the number of RULES R7.1 alone.

@@ -10,6 +10,8 @@ use lib.Dec.{ltb}
 use lib.ListN.{length}
 use Rattle.lent.specs.Bytes.{if_then_else_}
 use Rattle.utf8.specs.Utf8.{isUtf8}
+use Rattle.encode_byte.specs.declared.Escaping.{Escaping}
+use Rattle.encode_byte.specs.declared.Escaping.the-variants.{Off}
 use Rattle.encode.specs.Encode.{encodeOf}
 use Rattle.sanitize_uri.specs.Url.{normalizeOf, sanitizeOf}
 use Rattle.sanitize_uri.specs.Protocols.{sanitizeWithProtocolsOf}
@@ -38,18 +40,18 @@ pub fits : {text result d e : List ℕ} {r : Written} → Wrote text result d e 
 fits {text} {result} {d} {r = r} p h q = room-enough text result (length d) (numberOf r) (p .number) h q
 
 module _ {text d e : List ℕ} {r : Written} where
-  pub escape-fits : (on : Bool) → Wrote text (encodeOf on text) d e r → mostEscaped * length text ≤ length d → numberOf r ≡ 9 → ⊥
+  pub escape-fits : (on : Escaping) → Wrote text (encodeOf on text) d e r → mostEscaped * length text ≤ length d → numberOf r ≡ 9 → ⊥
   escape-fits on p h q = fits p (le-trans (escaped-most on text) h) q
 
-  pub replace-fits : Wrote text (encodeOf false text) d e r → mostReplaced * length text ≤ length d → numberOf r ≡ 9 → ⊥
+  pub replace-fits : Wrote text (encodeOf Off text) d e r → mostReplaced * length text ≤ length d → numberOf r ≡ 9 → ⊥
   replace-fits p h q = fits p (le-trans (replaced-most text) h) q
 
-  pub sanitize-fits : Wrote text (sanitizeOf text) d e r → mostSanitized * length text ≤ length d → numberOf r ≡ 9 → ⊥
-  sanitize-fits p h q = fits p (le-trans (sanitized-most text) h) q
+  pub sanitize-fits : (apostrophes : Bool) → Wrote text (sanitizeOf apostrophes text) d e r → mostSanitized * length text ≤ length d → numberOf r ≡ 9 → ⊥
+  sanitize-fits apostrophes p h q = fits p (le-trans (sanitized-most apostrophes text) h) q
 
   -- sanitize_link, sanitize_image
-  pub listed-fits : (schemes : List (List ℕ)) → Wrote text (sanitizeWithProtocolsOf schemes text) d e r → mostSanitized * length text ≤ length d → numberOf r ≡ 9 → ⊥
-  listed-fits schemes p h q = fits p (le-trans (listed-most schemes text) h) q
+  pub listed-fits : (apostrophes : Bool) (schemes : List (List ℕ)) → Wrote text (sanitizeWithProtocolsOf apostrophes schemes text) d e r → mostSanitized * length text ≤ length d → numberOf r ≡ 9 → ⊥
+  listed-fits apostrophes schemes p h q = fits p (le-trans (listed-most apostrophes schemes text) h) q
 
 pub normalize-fits : {url d e : List ℕ} {r : Normalized} → HasNormalized url d e r → mostNormalized * length url ≤ length d → N.numberOf r ≡ 9 → ⊥
 normalize-fits {url} {d} {r = r} p h q = room-enough url (normalizeOf url) (length d) (N.numberOf r) (p .number) (le-trans (normalized-most url) h) q

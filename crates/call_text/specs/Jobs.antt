@@ -10,8 +10,8 @@ use Rattle.call_text.specs.declared.Job.the-variants.{Escape, Sanitize, 
 
 -- what a call makes of its text
 abbrev pub resultOf : Job → List ℕ → List ℕ
-resultOf (Escape encoding) text = encodeOf encoding text
-resultOf Sanitize text = sanitizeOf text
-resultOf SanitizeLink text = sanitizeWithProtocolsOf linkSchemes text
-resultOf SanitizeImage text = sanitizeWithProtocolsOf imageSchemes text
+resultOf (Escape escaping) text = encodeOf escaping text
+resultOf (Sanitize apostrophes) text = sanitizeOf apostrophes text
+resultOf (SanitizeLink apostrophes) text = sanitizeWithProtocolsOf apostrophes linkSchemes text
+resultOf (SanitizeImage apostrophes) text = sanitizeWithProtocolsOf apostrophes imageSchemes text
 resultOf Identity text = identityOf text

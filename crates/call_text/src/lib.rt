@@ -8,42 +8,45 @@ ghost use Rattle.call_text_answer.specs.Written.{Wrote};
 ghost use Rattle.call_text.specs.Jobs.{resultOf};
 use call_text_answer::Taken;
 use call_text_answer::Written;
+use encode_byte::Escaping;
+use sanitize_uri::Protocols;
 
 // What a call makes of its text.
 pub enum Job {
-    Escape(bool),
-    Sanitize,
-    SanitizeLink,
-    SanitizeImage,
+    Escape(Escaping),
+    // whether apostrophes are escaped, in each of these
+    Sanitize(bool),
+    SanitizeLink(bool),
+    SanitizeImage(bool),
     Identity,
 }
 
-// Escapes a text for HTML; without `encoding` only NUL is replaced.
-pub fn escape(text: &[u8], encoding: bool, out: &mut [u8]) -> Written
-    ensures { λ r. ⌜ Wrote (now (text .entry)) (encodeOf encoding (now (text .entry))) (now (out .entry)) (now (out .exit)) r ⌝ }
+// Escapes a text for HTML; with escaping off only NUL is replaced.
+pub fn escape(text: &[u8], escaping: Escaping, out: &mut [u8]) -> Written
+    ensures { λ r. ⌜ Wrote (now (text .entry)) (encodeOf escaping (now (text .entry))) (now (out .entry)) (now (out .exit)) r ⌝ }
 {
-    write(Job::Escape(encoding), text, out)
+    write(Job::Escape(escaping), text, out)
 }
 
 // Makes a URL safe for an attribute.
-pub fn sanitize(url: &[u8], out: &mut [u8]) -> Written
-    ensures { λ r. ⌜ Wrote (now (url .entry)) (sanitizeOf (now (url .entry))) (now (out .entry)) (now (out .exit)) r ⌝ }
+pub fn sanitize(url: &[u8], apostrophes: bool, out: &mut [u8]) -> Written
+    ensures { λ r. ⌜ Wrote (now (url .entry)) (sanitizeOf apostrophes (now (url .entry))) (now (out .entry)) (now (out .exit)) r ⌝ }
 {
-    write(Job::Sanitize, url, out)
+    write(Job::Sanitize(apostrophes), url, out)
 }
 
 // The same for a link: a URL with another scheme than the six of RULES R11.5 becomes empty.
-pub fn sanitize_link(url: &[u8], out: &mut [u8]) -> Written
-    ensures { λ r. ⌜ Wrote (now (url .entry)) (sanitizeWithProtocolsOf linkSchemes (now (url .entry))) (now (out .entry)) (now (out .exit)) r ⌝ }
+pub fn sanitize_link(url: &[u8], apostrophes: bool, out: &mut [u8]) -> Written
+    ensures { λ r. ⌜ Wrote (now (url .entry)) (sanitizeWithProtocolsOf apostrophes linkSchemes (now (url .entry))) (now (out .entry)) (now (out .exit)) r ⌝ }
 {
-    write(Job::SanitizeLink, url, out)
+    write(Job::SanitizeLink(apostrophes), url, out)
 }
 
 // The same for an image, whose schemes are http and https.
-pub fn sanitize_image(url: &[u8], out: &mut [u8]) -> Written
-    ensures { λ r. ⌜ Wrote (now (url .entry)) (sanitizeWithProtocolsOf imageSchemes (now (url .entry))) (now (out .entry)) (now (out .exit)) r ⌝ }
+pub fn sanitize_image(url: &[u8], apostrophes: bool, out: &mut [u8]) -> Written
+    ensures { λ r. ⌜ Wrote (now (url .entry)) (sanitizeWithProtocolsOf apostrophes imageSchemes (now (url .entry))) (now (out .entry)) (now (out .exit)) r ⌝ }
 {
-    write(Job::SanitizeImage, url, out)
+    write(Job::SanitizeImage(apostrophes), url, out)
 }
 
 // What a label is compared by.
@@ -70,13 +73,13 @@ fn append(job: Job, text: &[u8], out: &mut [u8]) -> usize
     ensures { λ r. ⌜ Filled (now (out .entry)) 0 (resultOf job (now (text .entry))) (now (out .exit)) r ⌝ }
 {
     match job {
-        Job::Escape(encoding) => encode::encode(text, encoding, out, 0),
-        Job::Sanitize => sanitize_uri::sanitize(text, out, 0),
-        Job::SanitizeLink => {
-            sanitize_uri::sanitize_with_protocols(text, sanitize_uri::Protocols::Link, out, 0)
+        Job::Escape(escaping) => encode::encode(text, escaping, out, 0),
+        Job::Sanitize(apostrophes) => sanitize_uri::sanitize(text, apostrophes, out, 0),
+        Job::SanitizeLink(apostrophes) => {
+            sanitize_uri::sanitize_with_protocols(text, Protocols::Link, apostrophes, out, 0)
         }
-        Job::SanitizeImage => {
-            sanitize_uri::sanitize_with_protocols(text, sanitize_uri::Protocols::Image, out, 0)
+        Job::SanitizeImage(apostrophes) => {
+            sanitize_uri::sanitize_with_protocols(text, Protocols::Image, apostrophes, out, 0)
         }
         Job::Identity => normalize_identifier::normalize_identifier(text, out, 0),
     }

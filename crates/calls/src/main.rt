@@ -6,6 +6,7 @@ use bundle_parts::Progress;
 use bundle_parts::Reader;
 use bundle_writer::Packed;
 use character_reference::Names;
+use encode_byte::escaping_of;
 use machine::Ending;
 use machine::Options;
 
@@ -250,6 +251,7 @@ fn options_of(r: Request) -> Options {
         allow_dangerous_html: bits % 2 == 1,
         allow_dangerous_protocol: bits / 2 % 2 == 1,
         allow_any_img_src: bits / 4 % 2 == 1,
+        escape_apostrophes: bits / 8 % 2 == 1,
         ending,
         names,
     }
@@ -329,11 +331,12 @@ fn feed_parts(
 fn call(r: Request, text: &[u8], out: &mut [u8]) -> call_text_answer::Written {
     fill(out, 0xA5);
     let op = r.op;
+    let apostrophes = r.options / 8 % 2 == 1;
     match op {
-        1 => page::escape(text, r.options % 2 == 1, out),
-        2 => page::sanitize(text, out),
-        3 => page::sanitize_link(text, out),
-        4 => page::sanitize_image(text, out),
+        1 => page::escape(text, escaping_of(r.options % 2 == 1, apostrophes), out),
+        2 => page::sanitize(text, apostrophes, out),
+        3 => page::sanitize_link(text, apostrophes, out),
+        4 => page::sanitize_image(text, apostrophes, out),
         _ => page::identity(text, out),
     }
 }

@@ -110,7 +110,9 @@ fn exit_inline(
         Event::STRONG => on_inline::on_exit_strong(c, captures, out),
         Event::HARD_BREAK_ESCAPE => on_inline::on_exit_break(c, captures, out),
         Event::HARD_BREAK_TRAILING => on_inline::on_exit_break(c, captures, out),
-        Event::AUTOLINK_EMAIL => on_inline::on_exit_autolink_email(c, text, e, captures, out),
+        Event::AUTOLINK_EMAIL => {
+            on_inline::on_exit_autolink_email(c, text, e, options, captures, out)
+        }
         Event::AUTOLINK_PROTOCOL => {
             on_inline::on_exit_autolink_protocol(c, text, e, options, captures, out)
         }

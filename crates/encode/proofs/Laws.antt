@@ -9,12 +9,13 @@ use lib.Seq.{drop-drop, take-all}
 use Rattle.lent.specs.Bytes.{bytes, each, any}
 use Rattle.lent.specs.Fill.{Filled}
 use Rattle.lent.proofs.Laws.{Left, last, next, each-append, each-kept}
+use Rattle.encode_byte.specs.declared.Escaping.{Escaping}
 use Rattle.encode_byte.specs.Byte.{encodeByte}
 use Rattle.encode_byte.proofs.Laws.{encode-plain}
 use Rattle.encode.specs.Encode.{encodeOf}
 use Rattle.encode_byte.specs.Private.{isSpecial}
 
-module _ (on : Bool) (l : List ℕ) where
+module _ (on : Escaping) (l : List ℕ) where
   -- a block whose bytes all stay, and any other
   pub plain-block : (i e : ℕ) (x : Bool) → e ≡ i + 16 → x ≡ any (isSpecial on) (take 16 (drop i l)) → x ≡ false → encodeOf on (take 16 (drop i l)) ≡ take (e - i) (drop i l)
   unfolding encodeOf

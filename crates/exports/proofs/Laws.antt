@@ -16,6 +16,8 @@ use Rattle.bundle_parts.specs.Feed.{standOf, startOf, feedOf, endOf}
 use Rattle.bundle_known.specs.declared.Known.{Known}
 use Rattle.call_build_answer.specs.declared.Built.{Built}
 use Rattle.call_build.specs.Build.{Builds}
+use Rattle.encode_byte.specs.declared.Escaping.{Escaping}
+use Rattle.encode_byte.specs.Byte.{escapingOf}
 use Rattle.encode.specs.Encode.{encodeOf}
 use Rattle.call_text_answer.specs.declared.Written.{Written}
 use Rattle.call_text_answer.specs.Written.{Wrote}
@@ -28,7 +30,7 @@ use Rattle.exports.specs.declared.NotepageNormalized.{NotepageNormalized
 use Rattle.exports.specs.declared.NotepageRead.{NotepageRead}
 use Rattle.exports.specs.declared.NotepageReader.{NotepageReader}
 use Rattle.exports.specs.Told.{Told, ofWritten, ofBuilt, ofRead, ofProgress, isDone}
-use Rattle.exports.specs.Given.{hasBit, endingOf, namesOf, optionsOf}
+use Rattle.exports.specs.Given.{hasBit, endingOf, namesOf, optionsOf, escapingIn}
 use Rattle.exports.specs.Reader.{isSet, refusalOf, answerOf, progressOf, knownOf, readerOf}
 
 -- ---- answers
@@ -58,10 +60,10 @@ pub ending-lf : (n : ℕ) → (n ≡ 1 → ⊥) → (n ≡ 2 → ⊥) → Lf ≡
 unfolding endingOf
 ending-lf n p q = rw (ne-eqb n 1 p, ne-eqb n 2 q)
 
-pub options : {a b c x : Bool} {e : Ending} {h : Names} (n : ℕ) → a ≡ hasBit 1 n → b ≡ hasBit 2 n → c ≡ hasBit 4 n → e ≡ endingOf (n / 256 % 4) → x ≡ hasBit 65536 n → h ≡ namesOf x
-    → _≡_ {A = Options} (record { «allow_dangerous_html» = a; «allow_dangerous_protocol» = b; «allow_any_img_src» = c; ending = e; names = h }) (optionsOf n)
+pub options : {a b c d x : Bool} {e : Ending} {h : Names} (n : ℕ) → a ≡ hasBit 1 n → b ≡ hasBit 2 n → c ≡ hasBit 4 n → d ≡ hasBit 8 n → e ≡ endingOf (n / 256 % 4) → x ≡ hasBit 65536 n → h ≡ namesOf x
+    → _≡_ {A = Options} (record { «allow_dangerous_html» = a; «allow_dangerous_protocol» = b; «allow_any_img_src» = c; «escape_apostrophes» = d; ending = e; names = h }) (optionsOf n)
 unfolding optionsOf
-options n p q s t u v = rw (p, q, s, t, v, u)
+options n p q s w t u v = rw (p, q, s, w, t, v, u)
 
 -- ---- the reader's state
 
@@ -156,9 +158,18 @@ pub builds : {text events out work out′ work′ : List ℕ} {o : Options} {b :
     → Told (Builds text events (optionsOf n) out work out′ work′) ofBuilt r
 builds {b = b} n e k q = record { answer = b; meets = rw (← e) k; tells = q }
 
-pub escapes : {text d e : List ℕ} {x : Bool} {w : Written} (n : ℕ) {r : NotepageAnswer} → x ≡ hasBit 1 n → Wrote text (encodeOf x text) d e w → r ≡ ofWritten w
-    → Told (Wrote text (encodeOf (hasBit 1 n) text) d e) ofWritten r
+pub escapes : {text d e : List ℕ} {x : Escaping} {w : Written} (n : ℕ) {r : NotepageAnswer} → x ≡ escapingIn n → Wrote text (encodeOf x text) d e w → r ≡ ofWritten w
+    → Told (Wrote text (encodeOf (escapingIn n) text) d e) ofWritten r
 escapes {w = w} n e k q = record { answer = w; meets = rw (← e) k; tells = q }
+
+-- which escaping the bits give
+pub escaping : {a b : Bool} {x : Escaping} (n : ℕ) → a ≡ hasBit 1 n → b ≡ hasBit 8 n → x ≡ escapingOf a b → x ≡ escapingIn n
+escaping n p q k = k ∙ rw (p, q)
+
+-- a call that writes f of its text, by bit 3
+pub sanitizes : {text d e : List ℕ} {x : Bool} {w : Written} (f : Bool → List ℕ → List ℕ) (n : ℕ) {r : NotepageAnswer} → x ≡ hasBit 8 n → Wrote text (f x text) d e w → r ≡ ofWritten w
+    → Told (Wrote text (f (hasBit 8 n) text) d e) ofWritten r
+sanitizes {w = w} f n e k q = record { answer = w; meets = rw (← e) k; tells = q }
 
 pub starts : (r : NotepageReader) {x : Reader} → readerOf r ≡ x → ((t e : List ℕ) → standOf x t e ≡ startOf t e) → (t e : List ℕ) → standOf (readerOf r) t e ≡ startOf t e
 starts r h f t e = rw h (f t e)

@@ -14,7 +14,7 @@ ghost use Rattle.call_build.specs.Build.{Builds};
 ghost use Rattle.call_text_answer.specs.Written.{Wrote};
 ghost use Rattle.call_normalize.specs.Normalized.{HasNormalized};
 ghost use Rattle.exports.specs.Told.{Told, ofWritten, ofNormalized, ofChecked, ofBuilt, ofPacked, ofRead, ofProgress, isDone};
-ghost use Rattle.exports.specs.Given.{hasBit, endingOf, namesOf, optionsOf};
+ghost use Rattle.exports.specs.Given.{hasBit, endingOf, namesOf, optionsOf, escapingIn};
 ghost use Rattle.exports.specs.Reader.{refusalOf, answerOf, progressOf, knownOf, readerOf};
 use bundle_block::Refusal;
 use bundle_known::Known;
@@ -28,6 +28,7 @@ use call_normalize::Normalized;
 use call_text_answer::Written;
 use character_reference::Names;
 use check_list::Checked;
+use encode_byte::Escaping;
 use machine::Ending;
 use machine::Options;
 
@@ -179,39 +180,44 @@ pub extern "C" fn notepage_bundle_so_far(reader: NotepageReader) -> NotepageRead
     tell_progress(so_far)
 }
 
-// Escapes a text for HTML; without bit 0 of the options only NUL is replaced.
+// Escapes a text for HTML; without bit 0 of the options only NUL is replaced, with bit 3 too `'` is escaped.
 #[no_mangle]
 pub extern "C" fn notepage_escape(text: &[u8], options: u32, out: &mut [u8]) -> NotepageAnswer
-    ensures { λ r. ⌜ Told (Wrote (now (text .entry)) (encodeOf (hasBit 1 options) (now (text .entry))) (now (out .entry)) (now (out .exit))) ofWritten r ⌝ }
+    ensures { λ r. ⌜ Told (Wrote (now (text .entry)) (encodeOf (escapingIn options) (now (text .entry))) (now (out .entry)) (now (out .exit))) ofWritten r ⌝ }
 {
-    let written = page::escape(text, has_bit(1, options), out);
+    let escaping = escaping_in(options);
+    let written = page::escape(text, escaping, out);
     tell_written(written)
 }
 
-// Makes a URL safe for an attribute.
+// Makes a URL safe for an attribute; with bit 3 of the options `'` is escaped.
 #[no_mangle]
-pub extern "C" fn notepage_sanitize(url: &[u8], out: &mut [u8]) -> NotepageAnswer
-    ensures { λ r. ⌜ Told (Wrote (now (url .entry)) (sanitizeOf (now (url .entry))) (now (out .entry)) (now (out .exit))) ofWritten r ⌝ }
+pub extern "C" fn notepage_sanitize(url: &[u8], options: u32, out: &mut [u8]) -> NotepageAnswer
+    ensures { λ r. ⌜ Told (Wrote (now (url .entry)) (sanitizeOf (hasBit 8 options) (now (url .entry))) (now (out .entry)) (now (out .exit))) ofWritten r ⌝ }
 {
-    let written = page::sanitize(url, out);
+    let written = page::sanitize(url, has_bit(8, options), out);
     tell_written(written)
 }
 
 // The same for a link: a URL with another scheme than the six of RULES R11.5 becomes empty.
 #[no_mangle]
-pub extern "C" fn notepage_sanitize_link(url: &[u8], out: &mut [u8]) -> NotepageAnswer
-    ensures { λ r. ⌜ Told (Wrote (now (url .entry)) (sanitizeWithProtocolsOf linkSchemes (now (url .entry))) (now (out .entry)) (now (out .exit))) ofWritten r ⌝ }
+pub extern "C" fn notepage_sanitize_link(url: &[u8], options: u32, out: &mut [u8]) -> NotepageAnswer
+    ensures { λ r. ⌜ Told (Wrote (now (url .entry)) (sanitizeWithProtocolsOf (hasBit 8 options) linkSchemes (now (url .entry))) (now (out .entry)) (now (out .exit))) ofWritten r ⌝ }
 {
-    let written = page::sanitize_link(url, out);
+    let written = page::sanitize_link(url, has_bit(8, options), out);
     tell_written(written)
 }
 
 // The same for an image, whose schemes are http and https.
 #[no_mangle]
-pub extern "C" fn notepage_sanitize_image(url: &[u8], out: &mut [u8]) -> NotepageAnswer
-    ensures { λ r. ⌜ Told (Wrote (now (url .entry)) (sanitizeWithProtocolsOf imageSchemes (now (url .entry))) (now (out .entry)) (now (out .exit))) ofWritten r ⌝ }
+pub extern "C" fn notepage_sanitize_image(
+    url: &[u8],
+    options: u32,
+    out: &mut [u8],
+) -> NotepageAnswer
+    ensures { λ r. ⌜ Told (Wrote (now (url .entry)) (sanitizeWithProtocolsOf (hasBit 8 options) imageSchemes (now (url .entry))) (now (out .entry)) (now (out .exit))) ofWritten r ⌝ }
 {
-    let written = page::sanitize_image(url, out);
+    let written = page::sanitize_image(url, has_bit(8, options), out);
     tell_written(written)
 }
 
@@ -316,6 +322,15 @@ fn has_bit(bit: u32, options: u32) -> bool
     options / bit % 2 == 1
 }
 
+// Of the call that escapes a text: bit 0 and bit 3.
+fn escaping_in(options: u32) -> Escaping
+    ensures { λ r. ⌜ r ≡ escapingIn options ⌝ }
+{
+    let html = has_bit(1, options);
+    let apostrophes = has_bit(8, options);
+    encode_byte::escaping_of(html, apostrophes)
+}
+
 fn options_of(options: u32) -> Options
     ensures { λ r. ⌜ r ≡ optionsOf options ⌝ }
 {
@@ -323,6 +338,7 @@ fn options_of(options: u32) -> Options
         allow_dangerous_html: has_bit(1, options),
         allow_dangerous_protocol: has_bit(2, options),
         allow_any_img_src: has_bit(4, options),
+        escape_apostrophes: has_bit(8, options),
         ending: ending_of(options / 256 % 4),
         names: names_of(has_bit(65536, options)),
     }

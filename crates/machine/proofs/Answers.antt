@@ -15,15 +15,26 @@ use Rattle.machine.specs.Run.{Answer, page, refused, stopped, runOf, mac
 
 -- ---- options
 
+abbrev pub optionsWith : (apostrophes html protocol images : Bool) → Ending → Options
+optionsWith a h p i e =
+    record {
+      «allow_dangerous_html» = h;
+      «allow_dangerous_protocol» = p;
+      «allow_any_img_src» = i;
+      «escape_apostrophes» = a;
+      ending = e;
+      names = Html5;
+    }
+
 abbrev pub options : (html protocol images : Bool) → Ending → Options
-options h p i e = record { «allow_dangerous_html» = h; «allow_dangerous_protocol» = p; «allow_any_img_src» = i; ending = e; names = Html5 }
+options h p i e = optionsWith false h p i e
 
 abbrev pub off : Ending → Options
 off e = options false false false e
 
 -- with the names of HTML 4.01
 abbrev pub older : Ending → Options
-older e = record { «allow_dangerous_html» = false; «allow_dangerous_protocol» = false; «allow_any_img_src» = false; ending = e; names = Html4 }
+older e = record { «allow_dangerous_html» = false; «allow_dangerous_protocol» = false; «allow_any_img_src» = false; «escape_apostrophes» = false; ending = e; names = Html4 }
 
 abbrev pub html : Ending → Options
 html e = options true false false e
@@ -36,6 +47,13 @@ images e = options false false true e
 
 abbrev pub on : Ending → Options
 on e = options true true true e
+
+-- with apostrophes escaped, and then with all else on too
+abbrev pub quoted : Ending → Options
+quoted e = optionsWith true false false false e
+
+abbrev pub quotedOn : Ending → Options
+quotedOn e = optionsWith true true true true e
 
 -- ---- events
 

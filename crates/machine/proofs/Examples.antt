@@ -1,5 +1,6 @@
 -- The table of RULES R19.1 in one statement, and the examples of RULES R19.2, by computation. Assumes nothing.
 use mathlib.Core.Path.{_≡_, refl}
+use mathlib.Core.Bool.{true, false}
 use mathlib.Core.List.{List, [], _∷_, _++_}
 use Prim.Native.Nat.{ℕ}
 use Rattle.lent.specs.Bytes.{bytes}
@@ -10,7 +11,7 @@ use Rattle.machine.specs.declared.Ending.the-variants.{Lf}
 use Rattle.machine.specs.Outcome.{Outcome, go}
 use Rattle.machine.specs.Run.{Answer, page, refused, runOf, machineOf}
 use Rattle.machine.proofs.Running.{running}
-use Rattle.machine.proofs.Answers.{off, older, enter, exit, enterWith}
+use Rattle.machine.proofs.Answers.{off, older, quoted, quotedOn, enter, exit, enterWith}
 
 -- ---- RULES R19.1
 
@@ -27,16 +28,16 @@ inCell n =
     ++ (exit 61 0 n ∷ exit 60 0 n ∷ exit 58 0 n ∷ exit 57 0 n ∷ [])
 
 pub table :
-    (sanitizeOf (bytes "%zz") ≡ bytes "%zz")
-    × (sanitizeOf (bytes "%20") ≡ bytes "%20")
-    × (sanitizeOf (bytes "%%20") ≡ bytes "%25%20")
-    × (sanitizeOf (bytes "%2") ≡ bytes "%252")
-    × (sanitizeOf (bytes "") ≡ bytes "")
-    × (sanitizeOf (bytes "a b&c") ≡ bytes "a%20b&amp;c")
-    × (sanitizeWithProtocolsOf linkSchemes (bytes ":x") ≡ bytes "")
-    × (sanitizeWithProtocolsOf linkSchemes (bytes "JAVASCRIPT:x") ≡ bytes "")
-    × (sanitizeWithProtocolsOf linkSchemes (bytes "HTTP:x") ≡ bytes "HTTP:x")
-    × (sanitizeWithProtocolsOf linkSchemes (bytes "a/b:c") ≡ bytes "a/b:c")
+    (sanitizeOf false (bytes "%zz") ≡ bytes "%zz")
+    × (sanitizeOf false (bytes "%20") ≡ bytes "%20")
+    × (sanitizeOf false (bytes "%%20") ≡ bytes "%25%20")
+    × (sanitizeOf false (bytes "%2") ≡ bytes "%252")
+    × (sanitizeOf false (bytes "") ≡ bytes "")
+    × (sanitizeOf false (bytes "a b&c") ≡ bytes "a%20b&amp;c")
+    × (sanitizeWithProtocolsOf false linkSchemes (bytes ":x") ≡ bytes "")
+    × (sanitizeWithProtocolsOf false linkSchemes (bytes "JAVASCRIPT:x") ≡ bytes "")
+    × (sanitizeWithProtocolsOf false linkSchemes (bytes "HTTP:x") ≡ bytes "HTTP:x")
+    × (sanitizeWithProtocolsOf false linkSchemes (bytes "a/b:c") ≡ bytes "a/b:c")
     × (machineOf (bytes " a ") (off Lf) (inParagraph 3) ≡ go (bytes "<p><code>a</code></p>"))
     × (machineOf (bytes "  ") (off Lf) (inParagraph 2) ≡ go (bytes "<p><code>  </code></p>"))
     × (machineOf (bytes "   ") (off Lf) (inParagraph 3) ≡ go (bytes "<p><code>   </code></p>"))
@@ -75,3 +76,24 @@ pub named :
     × (machineOf (bytes "amp") (older Lf) (referring 3) ≡ go (bytes "<p>&amp;</p>"))
 unfolding running
 named = (refl, refl, refl, refl)
+
+-- ---- apostrophes
+
+abbrev html : ℕ → List Event
+html n = enter 12 ∷ enter 37 ∷ enter 38 ∷ exit 38 0 n ∷ exit 37 0 n ∷ exit 12 0 n ∷ []
+
+abbrev saying : ℕ → List Event
+saying n = enter 12 ∷ enter 5 ∷ exit 5 0 n ∷ exit 12 0 n ∷ []
+
+-- in text and URLs, and not in HTML that is allowed; a scheme is judged before it is escaped
+pub quotes :
+    (machineOf (bytes "it's") (off Lf) (saying 4) ≡ go (bytes "<p>it's</p>"))
+    × (machineOf (bytes "it's") (quoted Lf) (saying 4) ≡ go (bytes "<p>it&#39;s</p>"))
+    × (machineOf (bytes "<a b='c'>") (quoted Lf) (html 9) ≡ go (bytes "<p>&lt;a b=&#39;c&#39;&gt;</p>"))
+    × (machineOf (bytes "<a b='c'>") (quotedOn Lf) (html 9) ≡ go (bytes "<p><a b='c'></p>"))
+    × (sanitizeOf true (bytes "a'b%27") ≡ bytes "a&#39;b%27")
+    × (sanitizeWithProtocolsOf true linkSchemes (bytes "javascript':x") ≡ bytes "")
+    × (sanitizeWithProtocolsOf true linkSchemes (bytes "http:x'y") ≡ bytes "http:x&#39;y")
+    × (sanitizeWithProtocolsOf true linkSchemes (bytes "x'/y:z") ≡ bytes "x&#39;/y:z")
+unfolding running
+quotes = (refl, refl, refl, refl, refl, refl, refl, refl)

@@ -4,6 +4,8 @@ use mathlib.Core.List.{List, [], _∷_, _++_}
 use Prim.Native.Nat.{ℕ}
 use Prim.Native.String.{String}
 use Rattle.lent.specs.Bytes.{if_then_else_, bytes, oneOf}
+use Rattle.encode_byte.specs.declared.Escaping.{Escaping}
+use Rattle.encode_byte.specs.Byte.{escapingOf}
 use Rattle.encode.specs.Encode.{encodeOf}
 use Rattle.machine.specs.declared.Ending.{Ending}
 use Rattle.machine.specs.declared.Ending.the-variants.{Lf, Cr, CrLf}
@@ -30,9 +32,12 @@ push b s = pushTo (s .captures) b s
 abbrev pub write : String → State → State
 write text s = push (bytes text) s
 
--- encoded where the flag says so
+-- RULES R12.2: encoded where the flag says so, and then apostrophes too, where the build wants it
+abbrev pub escapingNow : State → Escaping
+escapingNow s = escapingOf (s .flags .encode) (s .fixed .apostrophes)
+
 abbrev pub encoded : List ℕ → State → List ℕ
-encoded b s = encodeOf (s .flags .encode) b
+encoded b s = encodeOf (escapingNow s) b
 
 unfoldable pub pushEncoded : List ℕ → State → State
 pushEncoded b s = push (encoded b s) s

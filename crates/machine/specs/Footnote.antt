@@ -20,8 +20,8 @@ use Rattle.machine.specs.Text.{decimal}
 use Rattle.machine.specs.Media.{newestMedia}
 
 -- a footnote's address: its identity, lower-cased, sanitized
-unfoldable pub addressOf : (label : List ℕ) → List ℕ
-addressOf label = sanitizeOf (mapped lower (identityOf label))
+unfoldable pub addressOf : (apostrophes : Bool) → (label : List ℕ) → List ℕ
+addressOf apostrophes label = sanitizeOf apostrophes (mapped lower (identityOf label))
 
 -- ---- bodies
 
@@ -79,4 +79,4 @@ callNote t s = do
   let index = callIndex label (s .kept .calls)
   let calls = countAt index label (s .kept .calls)
   let u = s ▹ setMedia ms ▹ setCalls calls
-  go (if u .flags .alt then u else push (callText (addressOf label) (suc index) (timesAt index calls)) u)
+  go (if u .flags .alt then u else push (callText (addressOf (s .fixed .apostrophes) label) (suc index) (timesAt index calls)) u)

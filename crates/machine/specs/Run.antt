@@ -38,7 +38,7 @@ endingOf default text (e ∷ es) =
 
 -- what the caller chose and the ending that was found, for the whole build
 abbrev pub fixedOf : Options → Ending → Fixed
-fixedOf o ending = record { ending = ending; names = o .names }
+fixedOf o ending = record { ending = ending; names = o .names; apostrophes = o .«escape_apostrophes» }
 
 -- ---- RULES R9.2: a pass over the definitions alone, then one over all other events
 

@@ -74,7 +74,7 @@ pushBody body back s =
 
 unfoldable pub footnoteItem : Call → State → Outcome State
 footnoteItem c s = do
-  let address = addressOf (c .label)
+  let address = addressOf (s .fixed .apostrophes) (c .label)
   body ← bodyOf (c .label) (s .kept .footnotes)
   let opened = s ▹ endLine ▹ write "<li id=\"user-content-fn-" ▹ push address ▹ write "\">" ▹ endLine
   u ← pushBody body (backreferences address (c .times)) opened

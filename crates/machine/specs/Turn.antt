@@ -50,8 +50,8 @@ ownStr t = strOf (t .text) (spanOf (t .event))
 
 unfoldable pub urlOf : Options → (image : Bool) → List ℕ → List ℕ
 urlOf o image url =
-    if o .«allow_dangerous_protocol» || (o .«allow_any_img_src» && image) then sanitizeOf url
-    else sanitizeWithProtocolsOf (if image then imageSchemes else linkSchemes) url
+    if o .«allow_dangerous_protocol» || (o .«allow_any_img_src» && image) then sanitizeOf (o .«escape_apostrophes») url
+    else sanitizeWithProtocolsOf (o .«escape_apostrophes») (if image then imageSchemes else linkSchemes) url
 
 -- ---- the events before
 

@@ -5,7 +5,7 @@ use character_reference::Names;
 pub struct Flags {
     // the next line ending is swallowed
     pub slurp: bool,
-    // & < > " are encoded
+    // & < > " are encoded, and ' where the build wants it
     pub encode: bool,
     // in code text
     pub raw: bool,
@@ -27,6 +27,8 @@ pub struct Options {
     pub allow_dangerous_html: bool,
     pub allow_dangerous_protocol: bool,
     pub allow_any_img_src: bool,
+    // where HTML is encoded, ' is too
+    pub escape_apostrophes: bool,
     pub ending: Ending,
     pub names: Names,
 }
@@ -36,4 +38,6 @@ pub struct Fixed {
     pub ending: Ending,
     // which HTML's names a character reference has
     pub names: Names,
+    // ' is encoded where HTML is
+    pub apostrophes: bool,
 }

@@ -12,7 +12,7 @@ use Rattle.character_reference.specs.Reference.{areDigits, fromDigits}
 use Rattle.machine.specs.Outcome.{Outcome, stop, go, _>>=_, need}
 use Rattle.machine.specs.State.{State, own}
 use Rattle.machine.specs.Set.{setTight, setLabels, setFlag, setSetext, setRank, setSeen, setFences, setMarker, setFirst, setAligns, setColumn, setDestination}
-use Rattle.machine.specs.Buffers.{push, takeCapture}
+use Rattle.machine.specs.Buffers.{push, escapingNow, takeCapture}
 use Rattle.machine.specs.Turn.{Turn, spanOf, sliceOf, ownStr}
 use Rattle.machine.specs.Text.{startText, startOf, codeOf}
 use Rattle.machine.specs.Media.{newMedia, withPart, withId}
@@ -59,8 +59,8 @@ given-valid lineEnding p s = ending-valid (s .fixed .ending)
 given-valid lineEndingIfNeeded p s = needed-valid s
 
 made-valid : (x : Made) → T (oursMade x) → (t : Turn) (s : State) {b : List ℕ} → Valid b → Valid (madeOf x t s b)
-made-valid slice p t s v = encoded (s .flags .encode) v
-made-valid chunk p t s v = encoded (s .flags .encode) (joined (joined (spaces (t .event .before)) v) (spaces (t .event .after)))
+made-valid slice p t s v = encoded (escapingNow s) v
+made-valid chunk p t s v = encoded (escapingNow s) (joined (joined (spaces (t .event .before)) v) (spaces (t .event .after)))
 made-valid (url w) p t s v = url-valid (t .options) false (joined (text w p) v)
 
 written : (x : Source) → T (oursWritten x) → (t : Turn) (s : State) → Clean s → Safe Valid (textOf x t s)

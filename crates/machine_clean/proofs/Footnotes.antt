@@ -68,7 +68,7 @@ called t {s} c =
     let cs = countAt k label (s .kept .calls) in
     let u = setCalls cs (setMedia ms s) in
     let d : Clean u = with-calls cs (with-media ms c q) (counted k v (c .kept .calls)) in
-    goes (on (u .flags .alt) u (callText (addressOf label) (suc k) (timesAt k cs)) d (call-valid (suc k) (timesAt k cs) (address-valid v))))))
+    goes (on (u .flags .alt) u (callText (addressOf (s .fixed .apostrophes) label) (suc k) (timesAt k cs)) d (call-valid (suc k) (timesAt k cs) (address-valid (s .fixed .apostrophes) v))))))
   where
     on : (x : Bool) (u : State) (b : List ℕ) → Clean u → Valid b → Clean (cond x u (push b u))
     on true u b d v = d

@@ -6,7 +6,7 @@ use mathlib.Core.Option.{Option}
 use Prim.Native.Nat.{ℕ}
 use Rattle.machine.specs.declared.Fixed.{Fixed}
 use Rattle.machine.specs.State.{State, Media, Kept, start}
-use Rattle.machine.specs.Buffers.{pushTo, push, pushEncoded, openCapture, takeFrom, takeCapture, isEol, lastOr, newestOf, endingText, endLine, endingIfNeeded, endLineIfNeeded}
+use Rattle.machine.specs.Buffers.{pushTo, push, escapingNow, pushEncoded, openCapture, takeFrom, takeCapture, isEol, lastOr, newestOf, endingText, endLine, endingIfNeeded, endLineIfNeeded}
 use Rattle.machine_clean.specs.Clean.{Valid, All, empty, more, missing, Clean}
 use Rattle.machine_clean.proofs.Valid.{none-valid, joined}
 use Rattle.machine_clean.proofs.Texts.{ending-valid}
@@ -46,7 +46,7 @@ pushed {s} {b} c v = on (s .captures) (c .captures)
 
 pub pushed-encoded : {s : State} {b : List ℕ} → Clean s → Valid b → Clean (pushEncoded b s)
 unfolding pushEncoded
-pushed-encoded {s} c v = pushed c (encoded (s .flags .encode) v)
+pushed-encoded {s} c v = pushed c (encoded (escapingNow s) v)
 
 pub ended : {s : State} → Clean s → Clean (endLine s)
 unfolding endLine

@@ -50,7 +50,7 @@ module _ (Why : Type 0) (s : State) where
   unfolding footnoteItem
   item {u} {c} a p f =
       let k : Ends Why Valid (bodyOf (c .label) (u .kept .footnotes)) = rw (same-kept a) f in
-      let v = address-valid (p .label) in
+      let v = address-valid (u .fixed .apostrophes) (p .label) in
       let b = behind-line (behind-text (behind (behind-text (behind-line a) "<li id=\"user-content-fn-" tt) v) "\">" tt) in
       chain _ k (λ body w. chain _ (body-behind b w (backs-valid (c .times) v)) (λ x d. goes (behind-text (behind-line-if d) "</li>" tt)))
 

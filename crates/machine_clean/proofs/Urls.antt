@@ -12,6 +12,7 @@ use Rattle.lent.proofs.Computed.{computed, and-left, and-right, and-both}
 use Rattle.utf8.specs.Utf8.{isAscii}
 use Rattle.utf8.proofs.Laws.{at-most-F4}
 use Rattle.url_byte.specs.Byte.{isKept, stays, hexUpper, percent, urlByte}
+use Rattle.encode_byte.specs.Byte.{escapingOf}
 use Rattle.normalize_uri.specs.Url.{normalizeOf}
 use Rattle.sanitize_uri.specs.Url.{sanitizeOf}
 use Rattle.sanitize_uri.specs.Protocols.{linkSchemes, imageSchemes, isAllowed, sanitizeWithProtocolsOf}
@@ -60,19 +61,19 @@ unfolding normalizeOf
 normalized [] t = none-valid
 normalized (b ∷ s) t = joined (byte-valid b s (ltb→lt b 256 (and-left (isByte b) (all isByte s) t))) (normalized s (and-right (isByte b) (all isByte s) t))
 
-sanitized : (s : List ℕ) → T (all isByte s) → Valid (sanitizeOf s)
+sanitized : (apostrophes : Bool) (s : List ℕ) → T (all isByte s) → Valid (sanitizeOf apostrophes s)
 unfolding sanitizeOf
-sanitized s t = encoded true (normalized s t)
+sanitized apostrophes s t = encoded (escapingOf true apostrophes) (normalized s t)
 
-allowed : (schemes : List (List ℕ)) (s : List ℕ) → T (all isByte s) → Valid (sanitizeWithProtocolsOf schemes s)
+allowed : (apostrophes : Bool) (schemes : List (List ℕ)) (s : List ℕ) → T (all isByte s) → Valid (sanitizeWithProtocolsOf apostrophes schemes s)
 unfolding sanitizeWithProtocolsOf
-allowed schemes s t = either (isAllowed schemes s) (sanitized s t) none-valid
+allowed apostrophes schemes s t = either (isAllowed schemes s) (sanitized apostrophes s t) none-valid
 
 pub url-valid : (o : Options) (image : Bool) {s : List ℕ} → Valid s → Valid (urlOf o image s)
 unfolding urlOf
 url-valid o image {s} v =
-    either (o .«allow_dangerous_protocol» || (o .«allow_any_img_src» && image)) (sanitized s (are-bytes v))
-    (allowed (if image then imageSchemes else linkSchemes) s (are-bytes v))
+    either (o .«allow_dangerous_protocol» || (o .«allow_any_img_src» && image)) (sanitized (o .«escape_apostrophes») s (are-bytes v))
+    (allowed (o .«escape_apostrophes») (if image then imageSchemes else linkSchemes) s (are-bytes v))
 
 -- ---- addresses
 
@@ -96,6 +97,6 @@ identified begun gap (b ∷ s) t =
     on false true p q = q
     on false false p q = q
 
-pub address-valid : {label : List ℕ} → Valid label → Valid (addressOf label)
+pub address-valid : (apostrophes : Bool) {label : List ℕ} → Valid label → Valid (addressOf apostrophes label)
 unfolding addressOf identityOf
-address-valid {label} v = sanitized (mapped lower (identityOf label)) (lowered (identityOf label) (identified false false label (are-bytes v)))
+address-valid apostrophes {label} v = sanitized apostrophes (mapped lower (identityOf label)) (lowered (identityOf label) (identified false false label (are-bytes v)))

@@ -131,9 +131,9 @@ module _ (t : Turn) (s u : State) where
           let index = callIndex label (s .kept .calls) in
           let us = countAt index label (s .kept .calls) in
           let w = s ▹ setMedia ms ▹ setCalls us in
-          if w .flags .alt then w else push (callText (addressOf label) (suc index) (timesAt index us)) w
+          if w .flags .alt then w else push (callText (addressOf (s .fixed .apostrophes) label) (suc index) (timesAt index us)) w
 
       noted-values : (ms : List Media) (label : List ℕ) (x : Bool)
-          → values (if x then calls ms label else push (callText (addressOf label) (suc (callIndex label (s .kept .calls))) (timesAt (callIndex label (s .kept .calls)) (countAt (callIndex label (s .kept .calls)) label (s .kept .calls)))) (calls ms label)) ≡ values (calls ms label)
+          → values (if x then calls ms label else push (callText (addressOf (s .fixed .apostrophes) label) (suc (callIndex label (s .kept .calls))) (timesAt (callIndex label (s .kept .calls)) (countAt (callIndex label (s .kept .calls)) label (s .kept .calls)))) (calls ms label)) ≡ values (calls ms label)
       noted-values ms label true = refl
       noted-values ms label false = pushed _ (calls ms label)

@@ -16,6 +16,7 @@ mod OnDefinition
 mod OnFootnote
 mod OnTable
 mod OnCharacterReference
+mod OnApostrophe
 mod OnContainer
 mod OnShort
 mod OnOther

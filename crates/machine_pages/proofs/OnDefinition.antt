@@ -3,7 +3,7 @@ use mathlib.Core.List.{[], _∷_}
 use lib.Dec.{T}
 use Rattle.machine.specs.declared.Ending.the-variants.{Lf, Cr, CrLf}
 use Rattle.machine.proofs.Running.{running}
-use Rattle.machine.proofs.Answers.{shows, stops, off, html, protocol, images, on, enter, exit, enterWith, exitWith}
+use Rattle.machine.proofs.Answers.{shows, stops, off, html, protocol, images, on, quoted, quotedOn, enter, exit, enterWith, exitWith}
 
 v1 : T (shows (off Lf) ("[a]\n\n[a]: b" ∷ []) (enter 12 ∷ enter 45 ∷ enter 47 ∷ enter 0 ∷ enter 0 ∷ exit 0 0 1 ∷ exit 0 0 1 ∷ enter 48 ∷ enter 5 ∷ exit 5 1 2 ∷ exit 48 1 2 ∷ enter 0 ∷ enter 0 ∷ exit 0 2 3 ∷ exit 0 2 3 ∷ exit 47 0 3 ∷ exit 45 0 3 ∷ exit 12 0 3 ∷ enter 3 ∷ exit 3 3 4 ∷ enter 4 ∷ exit 4 4 5 ∷ enter 53 ∷ enter 0 ∷ enter 0 ∷ exit 0 5 6 ∷ enter 54 ∷ enter 5 ∷ exit 5 6 7 ∷ exit 54 6 7 ∷ enter 0 ∷ exit 0 7 8 ∷ exit 0 5 8 ∷ enter 0 ∷ exit 0 8 9 ∷ enter 1 ∷ exit 1 9 10 ∷ enter 0 ∷ enter 0 ∷ enter 55 ∷ enter 5 ∷ exit 5 10 11 ∷ exit 55 10 11 ∷ exit 0 10 11 ∷ exit 0 10 11 ∷ exit 53 5 11 ∷ []) ("<p><a href=\"b\">a</a></p>\n" ∷ []))
 unfolding running
@@ -177,46 +177,54 @@ v43 : T (shows (off Lf) ("[a]: b 'c' d\n[a]" ∷ []) (enter 12 ∷ enter 5 ∷ e
 unfolding running
 v43 = tt
 
-v44 : T (shows (off Lf) ("[a]: b\n===\n[a]" ∷ []) (enter 53 ∷ enter 0 ∷ enter 0 ∷ exit 0 0 1 ∷ enter 54 ∷ enter 5 ∷ exit 5 1 2 ∷ exit 54 1 2 ∷ enter 0 ∷ exit 0 2 3 ∷ exit 0 0 3 ∷ enter 0 ∷ exit 0 3 4 ∷ enter 1 ∷ exit 1 4 5 ∷ enter 0 ∷ enter 0 ∷ enter 55 ∷ enter 5 ∷ exit 5 5 6 ∷ exit 55 5 6 ∷ exit 0 5 6 ∷ exit 0 5 6 ∷ exit 53 0 6 ∷ enter 3 ∷ exit 3 6 7 ∷ enter 12 ∷ enter 5 ∷ exit 5 7 10 ∷ enter 3 ∷ exit 3 10 11 ∷ enter 45 ∷ enter 47 ∷ enter 0 ∷ enter 0 ∷ exit 0 11 12 ∷ exit 0 11 12 ∷ enter 48 ∷ enter 5 ∷ exit 5 12 13 ∷ exit 48 12 13 ∷ enter 0 ∷ enter 0 ∷ exit 0 13 14 ∷ exit 0 13 14 ∷ exit 47 11 14 ∷ exit 45 11 14 ∷ exit 12 7 14 ∷ []) ("<p>===\n<a href=\"b\">a</a></p>" ∷ []))
+v44 : T (shows (quoted Lf) ("[a]: b 'c' d\n[a]" ∷ []) (enter 12 ∷ enter 5 ∷ exit 5 0 12 ∷ enter 3 ∷ exit 3 12 13 ∷ enter 5 ∷ exit 5 13 16 ∷ exit 12 0 16 ∷ []) ("<p>[a]: b &#39;c&#39; d\n[a]</p>" ∷ []))
 unfolding running
 v44 = tt
 
-v45 : T (shows (off Lf) ("[a]: b\n'c'\n===\n[a]" ∷ []) (enter 53 ∷ enter 0 ∷ enter 0 ∷ exit 0 0 1 ∷ enter 54 ∷ enter 5 ∷ exit 5 1 2 ∷ exit 54 1 2 ∷ enter 0 ∷ exit 0 2 3 ∷ exit 0 0 3 ∷ enter 0 ∷ exit 0 3 4 ∷ enter 1 ∷ exit 1 4 5 ∷ enter 0 ∷ enter 0 ∷ enter 55 ∷ enter 5 ∷ exit 5 5 6 ∷ exit 55 5 6 ∷ exit 0 5 6 ∷ exit 0 5 6 ∷ enter 3 ∷ exit 3 6 7 ∷ enter 0 ∷ enter 0 ∷ exit 0 7 8 ∷ enter 56 ∷ enter 5 ∷ exit 5 8 9 ∷ exit 56 8 9 ∷ enter 0 ∷ exit 0 9 10 ∷ exit 0 7 10 ∷ exit 53 0 10 ∷ enter 3 ∷ exit 3 10 11 ∷ enter 12 ∷ enter 5 ∷ exit 5 11 14 ∷ enter 3 ∷ exit 3 14 15 ∷ enter 45 ∷ enter 47 ∷ enter 0 ∷ enter 0 ∷ exit 0 15 16 ∷ exit 0 15 16 ∷ enter 48 ∷ enter 5 ∷ exit 5 16 17 ∷ exit 48 16 17 ∷ enter 0 ∷ enter 0 ∷ exit 0 17 18 ∷ exit 0 17 18 ∷ exit 47 15 18 ∷ exit 45 15 18 ∷ exit 12 11 18 ∷ []) ("<p>===\n<a href=\"b\" title=\"c\">a</a></p>" ∷ []))
+v45 : T (shows (quotedOn Lf) ("[a]: b 'c' d\n[a]" ∷ []) (enter 12 ∷ enter 5 ∷ exit 5 0 12 ∷ enter 3 ∷ exit 3 12 13 ∷ enter 5 ∷ exit 5 13 16 ∷ exit 12 0 16 ∷ []) ("<p>[a]: b &#39;c&#39; d\n[a]</p>" ∷ []))
 unfolding running
 v45 = tt
 
-v46 : T (shows (off Lf) ("![a]\n\n[a]: javascript:b" ∷ []) (enter 12 ∷ enter 46 ∷ enter 47 ∷ enter 0 ∷ enter 0 ∷ exit 0 0 1 ∷ enter 0 ∷ exit 0 1 2 ∷ exit 0 0 2 ∷ enter 48 ∷ enter 5 ∷ exit 5 2 3 ∷ exit 48 2 3 ∷ enter 0 ∷ enter 0 ∷ exit 0 3 4 ∷ exit 0 3 4 ∷ exit 47 0 4 ∷ exit 46 0 4 ∷ exit 12 0 4 ∷ enter 3 ∷ exit 3 4 5 ∷ enter 4 ∷ exit 4 5 6 ∷ enter 53 ∷ enter 0 ∷ enter 0 ∷ exit 0 6 7 ∷ enter 54 ∷ enter 5 ∷ exit 5 7 8 ∷ exit 54 7 8 ∷ enter 0 ∷ exit 0 8 9 ∷ exit 0 6 9 ∷ enter 0 ∷ exit 0 9 10 ∷ enter 1 ∷ exit 1 10 11 ∷ enter 0 ∷ enter 0 ∷ enter 55 ∷ enter 5 ∷ exit 5 11 23 ∷ exit 55 11 23 ∷ exit 0 11 23 ∷ exit 0 11 23 ∷ exit 53 6 23 ∷ []) ("<p><img src=\"\" alt=\"a\" /></p>\n" ∷ []))
+v46 : T (shows (off Lf) ("[a]: b\n===\n[a]" ∷ []) (enter 53 ∷ enter 0 ∷ enter 0 ∷ exit 0 0 1 ∷ enter 54 ∷ enter 5 ∷ exit 5 1 2 ∷ exit 54 1 2 ∷ enter 0 ∷ exit 0 2 3 ∷ exit 0 0 3 ∷ enter 0 ∷ exit 0 3 4 ∷ enter 1 ∷ exit 1 4 5 ∷ enter 0 ∷ enter 0 ∷ enter 55 ∷ enter 5 ∷ exit 5 5 6 ∷ exit 55 5 6 ∷ exit 0 5 6 ∷ exit 0 5 6 ∷ exit 53 0 6 ∷ enter 3 ∷ exit 3 6 7 ∷ enter 12 ∷ enter 5 ∷ exit 5 7 10 ∷ enter 3 ∷ exit 3 10 11 ∷ enter 45 ∷ enter 47 ∷ enter 0 ∷ enter 0 ∷ exit 0 11 12 ∷ exit 0 11 12 ∷ enter 48 ∷ enter 5 ∷ exit 5 12 13 ∷ exit 48 12 13 ∷ enter 0 ∷ enter 0 ∷ exit 0 13 14 ∷ exit 0 13 14 ∷ exit 47 11 14 ∷ exit 45 11 14 ∷ exit 12 7 14 ∷ []) ("<p>===\n<a href=\"b\">a</a></p>" ∷ []))
 unfolding running
 v46 = tt
 
-v47 : T (shows (protocol Lf) ("![a]\n\n[a]: javascript:b" ∷ []) (enter 12 ∷ enter 46 ∷ enter 47 ∷ enter 0 ∷ enter 0 ∷ exit 0 0 1 ∷ enter 0 ∷ exit 0 1 2 ∷ exit 0 0 2 ∷ enter 48 ∷ enter 5 ∷ exit 5 2 3 ∷ exit 48 2 3 ∷ enter 0 ∷ enter 0 ∷ exit 0 3 4 ∷ exit 0 3 4 ∷ exit 47 0 4 ∷ exit 46 0 4 ∷ exit 12 0 4 ∷ enter 3 ∷ exit 3 4 5 ∷ enter 4 ∷ exit 4 5 6 ∷ enter 53 ∷ enter 0 ∷ enter 0 ∷ exit 0 6 7 ∷ enter 54 ∷ enter 5 ∷ exit 5 7 8 ∷ exit 54 7 8 ∷ enter 0 ∷ exit 0 8 9 ∷ exit 0 6 9 ∷ enter 0 ∷ exit 0 9 10 ∷ enter 1 ∷ exit 1 10 11 ∷ enter 0 ∷ enter 0 ∷ enter 55 ∷ enter 5 ∷ exit 5 11 23 ∷ exit 55 11 23 ∷ exit 0 11 23 ∷ exit 0 11 23 ∷ exit 53 6 23 ∷ []) ("<p><img src=\"javascript:b\" alt=\"a\" /></p>\n" ∷ []))
+v47 : T (shows (off Lf) ("[a]: b\n'c'\n===\n[a]" ∷ []) (enter 53 ∷ enter 0 ∷ enter 0 ∷ exit 0 0 1 ∷ enter 54 ∷ enter 5 ∷ exit 5 1 2 ∷ exit 54 1 2 ∷ enter 0 ∷ exit 0 2 3 ∷ exit 0 0 3 ∷ enter 0 ∷ exit 0 3 4 ∷ enter 1 ∷ exit 1 4 5 ∷ enter 0 ∷ enter 0 ∷ enter 55 ∷ enter 5 ∷ exit 5 5 6 ∷ exit 55 5 6 ∷ exit 0 5 6 ∷ exit 0 5 6 ∷ enter 3 ∷ exit 3 6 7 ∷ enter 0 ∷ enter 0 ∷ exit 0 7 8 ∷ enter 56 ∷ enter 5 ∷ exit 5 8 9 ∷ exit 56 8 9 ∷ enter 0 ∷ exit 0 9 10 ∷ exit 0 7 10 ∷ exit 53 0 10 ∷ enter 3 ∷ exit 3 10 11 ∷ enter 12 ∷ enter 5 ∷ exit 5 11 14 ∷ enter 3 ∷ exit 3 14 15 ∷ enter 45 ∷ enter 47 ∷ enter 0 ∷ enter 0 ∷ exit 0 15 16 ∷ exit 0 15 16 ∷ enter 48 ∷ enter 5 ∷ exit 5 16 17 ∷ exit 48 16 17 ∷ enter 0 ∷ enter 0 ∷ exit 0 17 18 ∷ exit 0 17 18 ∷ exit 47 15 18 ∷ exit 45 15 18 ∷ exit 12 11 18 ∷ []) ("<p>===\n<a href=\"b\" title=\"c\">a</a></p>" ∷ []))
 unfolding running
 v47 = tt
 
-v48 : T (shows (images Lf) ("![a]\n\n[a]: javascript:b" ∷ []) (enter 12 ∷ enter 46 ∷ enter 47 ∷ enter 0 ∷ enter 0 ∷ exit 0 0 1 ∷ enter 0 ∷ exit 0 1 2 ∷ exit 0 0 2 ∷ enter 48 ∷ enter 5 ∷ exit 5 2 3 ∷ exit 48 2 3 ∷ enter 0 ∷ enter 0 ∷ exit 0 3 4 ∷ exit 0 3 4 ∷ exit 47 0 4 ∷ exit 46 0 4 ∷ exit 12 0 4 ∷ enter 3 ∷ exit 3 4 5 ∷ enter 4 ∷ exit 4 5 6 ∷ enter 53 ∷ enter 0 ∷ enter 0 ∷ exit 0 6 7 ∷ enter 54 ∷ enter 5 ∷ exit 5 7 8 ∷ exit 54 7 8 ∷ enter 0 ∷ exit 0 8 9 ∷ exit 0 6 9 ∷ enter 0 ∷ exit 0 9 10 ∷ enter 1 ∷ exit 1 10 11 ∷ enter 0 ∷ enter 0 ∷ enter 55 ∷ enter 5 ∷ exit 5 11 23 ∷ exit 55 11 23 ∷ exit 0 11 23 ∷ exit 0 11 23 ∷ exit 53 6 23 ∷ []) ("<p><img src=\"javascript:b\" alt=\"a\" /></p>\n" ∷ []))
+v48 : T (shows (off Lf) ("![a]\n\n[a]: javascript:b" ∷ []) (enter 12 ∷ enter 46 ∷ enter 47 ∷ enter 0 ∷ enter 0 ∷ exit 0 0 1 ∷ enter 0 ∷ exit 0 1 2 ∷ exit 0 0 2 ∷ enter 48 ∷ enter 5 ∷ exit 5 2 3 ∷ exit 48 2 3 ∷ enter 0 ∷ enter 0 ∷ exit 0 3 4 ∷ exit 0 3 4 ∷ exit 47 0 4 ∷ exit 46 0 4 ∷ exit 12 0 4 ∷ enter 3 ∷ exit 3 4 5 ∷ enter 4 ∷ exit 4 5 6 ∷ enter 53 ∷ enter 0 ∷ enter 0 ∷ exit 0 6 7 ∷ enter 54 ∷ enter 5 ∷ exit 5 7 8 ∷ exit 54 7 8 ∷ enter 0 ∷ exit 0 8 9 ∷ exit 0 6 9 ∷ enter 0 ∷ exit 0 9 10 ∷ enter 1 ∷ exit 1 10 11 ∷ enter 0 ∷ enter 0 ∷ enter 55 ∷ enter 5 ∷ exit 5 11 23 ∷ exit 55 11 23 ∷ exit 0 11 23 ∷ exit 0 11 23 ∷ exit 53 6 23 ∷ []) ("<p><img src=\"\" alt=\"a\" /></p>\n" ∷ []))
 unfolding running
 v48 = tt
 
-v49 : T (shows (on Lf) ("![a]\n\n[a]: javascript:b" ∷ []) (enter 12 ∷ enter 46 ∷ enter 47 ∷ enter 0 ∷ enter 0 ∷ exit 0 0 1 ∷ enter 0 ∷ exit 0 1 2 ∷ exit 0 0 2 ∷ enter 48 ∷ enter 5 ∷ exit 5 2 3 ∷ exit 48 2 3 ∷ enter 0 ∷ enter 0 ∷ exit 0 3 4 ∷ exit 0 3 4 ∷ exit 47 0 4 ∷ exit 46 0 4 ∷ exit 12 0 4 ∷ enter 3 ∷ exit 3 4 5 ∷ enter 4 ∷ exit 4 5 6 ∷ enter 53 ∷ enter 0 ∷ enter 0 ∷ exit 0 6 7 ∷ enter 54 ∷ enter 5 ∷ exit 5 7 8 ∷ exit 54 7 8 ∷ enter 0 ∷ exit 0 8 9 ∷ exit 0 6 9 ∷ enter 0 ∷ exit 0 9 10 ∷ enter 1 ∷ exit 1 10 11 ∷ enter 0 ∷ enter 0 ∷ enter 55 ∷ enter 5 ∷ exit 5 11 23 ∷ exit 55 11 23 ∷ exit 0 11 23 ∷ exit 0 11 23 ∷ exit 53 6 23 ∷ []) ("<p><img src=\"javascript:b\" alt=\"a\" /></p>\n" ∷ []))
+v49 : T (shows (protocol Lf) ("![a]\n\n[a]: javascript:b" ∷ []) (enter 12 ∷ enter 46 ∷ enter 47 ∷ enter 0 ∷ enter 0 ∷ exit 0 0 1 ∷ enter 0 ∷ exit 0 1 2 ∷ exit 0 0 2 ∷ enter 48 ∷ enter 5 ∷ exit 5 2 3 ∷ exit 48 2 3 ∷ enter 0 ∷ enter 0 ∷ exit 0 3 4 ∷ exit 0 3 4 ∷ exit 47 0 4 ∷ exit 46 0 4 ∷ exit 12 0 4 ∷ enter 3 ∷ exit 3 4 5 ∷ enter 4 ∷ exit 4 5 6 ∷ enter 53 ∷ enter 0 ∷ enter 0 ∷ exit 0 6 7 ∷ enter 54 ∷ enter 5 ∷ exit 5 7 8 ∷ exit 54 7 8 ∷ enter 0 ∷ exit 0 8 9 ∷ exit 0 6 9 ∷ enter 0 ∷ exit 0 9 10 ∷ enter 1 ∷ exit 1 10 11 ∷ enter 0 ∷ enter 0 ∷ enter 55 ∷ enter 5 ∷ exit 5 11 23 ∷ exit 55 11 23 ∷ exit 0 11 23 ∷ exit 0 11 23 ∷ exit 53 6 23 ∷ []) ("<p><img src=\"javascript:b\" alt=\"a\" /></p>\n" ∷ []))
 unfolding running
 v49 = tt
 
-v50 : T (shows (off Lf) ("[a]\n\n[a]: b \"\"" ∷ []) (enter 12 ∷ enter 45 ∷ enter 47 ∷ enter 0 ∷ enter 0 ∷ exit 0 0 1 ∷ exit 0 0 1 ∷ enter 48 ∷ enter 5 ∷ exit 5 1 2 ∷ exit 48 1 2 ∷ enter 0 ∷ enter 0 ∷ exit 0 2 3 ∷ exit 0 2 3 ∷ exit 47 0 3 ∷ exit 45 0 3 ∷ exit 12 0 3 ∷ enter 3 ∷ exit 3 3 4 ∷ enter 4 ∷ exit 4 4 5 ∷ enter 53 ∷ enter 0 ∷ enter 0 ∷ exit 0 5 6 ∷ enter 54 ∷ enter 5 ∷ exit 5 6 7 ∷ exit 54 6 7 ∷ enter 0 ∷ exit 0 7 8 ∷ exit 0 5 8 ∷ enter 0 ∷ exit 0 8 9 ∷ enter 1 ∷ exit 1 9 10 ∷ enter 0 ∷ enter 0 ∷ enter 55 ∷ enter 5 ∷ exit 5 10 11 ∷ exit 55 10 11 ∷ exit 0 10 11 ∷ exit 0 10 11 ∷ enter 1 ∷ exit 1 11 12 ∷ enter 0 ∷ enter 0 ∷ exit 0 12 13 ∷ enter 0 ∷ exit 0 13 14 ∷ exit 0 12 14 ∷ exit 53 5 14 ∷ []) ("<p><a href=\"b\">a</a></p>\n" ∷ []))
+v50 : T (shows (images Lf) ("![a]\n\n[a]: javascript:b" ∷ []) (enter 12 ∷ enter 46 ∷ enter 47 ∷ enter 0 ∷ enter 0 ∷ exit 0 0 1 ∷ enter 0 ∷ exit 0 1 2 ∷ exit 0 0 2 ∷ enter 48 ∷ enter 5 ∷ exit 5 2 3 ∷ exit 48 2 3 ∷ enter 0 ∷ enter 0 ∷ exit 0 3 4 ∷ exit 0 3 4 ∷ exit 47 0 4 ∷ exit 46 0 4 ∷ exit 12 0 4 ∷ enter 3 ∷ exit 3 4 5 ∷ enter 4 ∷ exit 4 5 6 ∷ enter 53 ∷ enter 0 ∷ enter 0 ∷ exit 0 6 7 ∷ enter 54 ∷ enter 5 ∷ exit 5 7 8 ∷ exit 54 7 8 ∷ enter 0 ∷ exit 0 8 9 ∷ exit 0 6 9 ∷ enter 0 ∷ exit 0 9 10 ∷ enter 1 ∷ exit 1 10 11 ∷ enter 0 ∷ enter 0 ∷ enter 55 ∷ enter 5 ∷ exit 5 11 23 ∷ exit 55 11 23 ∷ exit 0 11 23 ∷ exit 0 11 23 ∷ exit 53 6 23 ∷ []) ("<p><img src=\"javascript:b\" alt=\"a\" /></p>\n" ∷ []))
 unfolding running
 v50 = tt
 
-v51 : T (shows (off Lf) ("[a]: b \"c\"\n\n![a] [a] [A][a] [x](y)" ∷ []) (enter 53 ∷ enter 0 ∷ enter 0 ∷ exit 0 0 1 ∷ enter 54 ∷ enter 5 ∷ exit 5 1 2 ∷ exit 54 1 2 ∷ enter 0 ∷ exit 0 2 3 ∷ exit 0 0 3 ∷ enter 0 ∷ exit 0 3 4 ∷ enter 1 ∷ exit 1 4 5 ∷ enter 0 ∷ enter 0 ∷ enter 55 ∷ enter 5 ∷ exit 5 5 6 ∷ exit 55 5 6 ∷ exit 0 5 6 ∷ exit 0 5 6 ∷ enter 1 ∷ exit 1 6 7 ∷ enter 0 ∷ enter 0 ∷ exit 0 7 8 ∷ enter 56 ∷ enter 5 ∷ exit 5 8 9 ∷ exit 56 8 9 ∷ enter 0 ∷ exit 0 9 10 ∷ exit 0 7 10 ∷ exit 53 0 10 ∷ enter 3 ∷ exit 3 10 11 ∷ enter 4 ∷ exit 4 11 12 ∷ enter 12 ∷ enter 46 ∷ enter 47 ∷ enter 0 ∷ enter 0 ∷ exit 0 12 13 ∷ enter 0 ∷ exit 0 13 14 ∷ exit 0 12 14 ∷ enter 48 ∷ enter 5 ∷ exit 5 14 15 ∷ exit 48 14 15 ∷ enter 0 ∷ enter 0 ∷ exit 0 15 16 ∷ exit 0 15 16 ∷ exit 47 12 16 ∷ exit 46 12 16 ∷ enter 5 ∷ exit 5 16 17 ∷ enter 45 ∷ enter 47 ∷ enter 0 ∷ enter 0 ∷ exit 0 17 18 ∷ exit 0 17 18 ∷ enter 48 ∷ enter 5 ∷ exit 5 18 19 ∷ exit 48 18 19 ∷ enter 0 ∷ enter 0 ∷ exit 0 19 20 ∷ exit 0 19 20 ∷ exit 47 17 20 ∷ exit 45 17 20 ∷ enter 5 ∷ exit 5 20 21 ∷ enter 45 ∷ enter 47 ∷ enter 0 ∷ enter 0 ∷ exit 0 21 22 ∷ exit 0 21 22 ∷ enter 48 ∷ enter 5 ∷ exit 5 22 23 ∷ exit 48 22 23 ∷ enter 0 ∷ enter 0 ∷ exit 0 23 24 ∷ exit 0 23 24 ∷ exit 47 21 24 ∷ enter 0 ∷ enter 0 ∷ exit 0 24 25 ∷ enter 52 ∷ enter 5 ∷ exit 5 25 26 ∷ exit 52 25 26 ∷ enter 0 ∷ exit 0 26 27 ∷ exit 0 24 27 ∷ exit 45 21 27 ∷ enter 5 ∷ exit 5 27 28 ∷ enter 45 ∷ enter 47 ∷ enter 0 ∷ enter 0 ∷ exit 0 28 29 ∷ exit 0 28 29 ∷ enter 48 ∷ enter 5 ∷ exit 5 29 30 ∷ exit 48 29 30 ∷ enter 0 ∷ enter 0 ∷ exit 0 30 31 ∷ exit 0 30 31 ∷ exit 47 28 31 ∷ enter 49 ∷ enter 0 ∷ exit 0 31 32 ∷ enter 0 ∷ enter 0 ∷ enter 50 ∷ enter 5 ∷ exit 5 32 33 ∷ exit 50 32 33 ∷ exit 0 32 33 ∷ exit 0 32 33 ∷ enter 0 ∷ exit 0 33 34 ∷ exit 49 31 34 ∷ exit 45 28 34 ∷ exit 12 12 34 ∷ []) ("<p><img src=\"b\" alt=\"a\" title=\"c\" /> <a href=\"b\" title=\"c\">a</a> <a href=\"b\" title=\"c\">A</a> <a href=\"y\">x</a></p>" ∷ []))
+v51 : T (shows (on Lf) ("![a]\n\n[a]: javascript:b" ∷ []) (enter 12 ∷ enter 46 ∷ enter 47 ∷ enter 0 ∷ enter 0 ∷ exit 0 0 1 ∷ enter 0 ∷ exit 0 1 2 ∷ exit 0 0 2 ∷ enter 48 ∷ enter 5 ∷ exit 5 2 3 ∷ exit 48 2 3 ∷ enter 0 ∷ enter 0 ∷ exit 0 3 4 ∷ exit 0 3 4 ∷ exit 47 0 4 ∷ exit 46 0 4 ∷ exit 12 0 4 ∷ enter 3 ∷ exit 3 4 5 ∷ enter 4 ∷ exit 4 5 6 ∷ enter 53 ∷ enter 0 ∷ enter 0 ∷ exit 0 6 7 ∷ enter 54 ∷ enter 5 ∷ exit 5 7 8 ∷ exit 54 7 8 ∷ enter 0 ∷ exit 0 8 9 ∷ exit 0 6 9 ∷ enter 0 ∷ exit 0 9 10 ∷ enter 1 ∷ exit 1 10 11 ∷ enter 0 ∷ enter 0 ∷ enter 55 ∷ enter 5 ∷ exit 5 11 23 ∷ exit 55 11 23 ∷ exit 0 11 23 ∷ exit 0 11 23 ∷ exit 53 6 23 ∷ []) ("<p><img src=\"javascript:b\" alt=\"a\" /></p>\n" ∷ []))
 unfolding running
 v51 = tt
 
-v52 : T (shows (off Lf) ("[a][b]\n\n[a]: c\n[b]: d" ∷ []) (enter 12 ∷ enter 45 ∷ enter 47 ∷ enter 0 ∷ enter 0 ∷ exit 0 0 1 ∷ exit 0 0 1 ∷ enter 48 ∷ enter 5 ∷ exit 5 1 2 ∷ exit 48 1 2 ∷ enter 0 ∷ enter 0 ∷ exit 0 2 3 ∷ exit 0 2 3 ∷ exit 47 0 3 ∷ enter 0 ∷ enter 0 ∷ exit 0 3 4 ∷ enter 52 ∷ enter 5 ∷ exit 5 4 5 ∷ exit 52 4 5 ∷ enter 0 ∷ exit 0 5 6 ∷ exit 0 3 6 ∷ exit 45 0 6 ∷ exit 12 0 6 ∷ enter 3 ∷ exit 3 6 7 ∷ enter 4 ∷ exit 4 7 8 ∷ enter 53 ∷ enter 0 ∷ enter 0 ∷ exit 0 8 9 ∷ enter 54 ∷ enter 5 ∷ exit 5 9 10 ∷ exit 54 9 10 ∷ enter 0 ∷ exit 0 10 11 ∷ exit 0 8 11 ∷ enter 0 ∷ exit 0 11 12 ∷ enter 1 ∷ exit 1 12 13 ∷ enter 0 ∷ enter 0 ∷ enter 55 ∷ enter 5 ∷ exit 5 13 14 ∷ exit 55 13 14 ∷ exit 0 13 14 ∷ exit 0 13 14 ∷ exit 53 8 14 ∷ enter 3 ∷ exit 3 14 15 ∷ enter 53 ∷ enter 0 ∷ enter 0 ∷ exit 0 15 16 ∷ enter 54 ∷ enter 5 ∷ exit 5 16 17 ∷ exit 54 16 17 ∷ enter 0 ∷ exit 0 17 18 ∷ exit 0 15 18 ∷ enter 0 ∷ exit 0 18 19 ∷ enter 1 ∷ exit 1 19 20 ∷ enter 0 ∷ enter 0 ∷ enter 55 ∷ enter 5 ∷ exit 5 20 21 ∷ exit 55 20 21 ∷ exit 0 20 21 ∷ exit 0 20 21 ∷ exit 53 15 21 ∷ []) ("<p><a href=\"d\">a</a></p>\n" ∷ []))
+v52 : T (shows (off Lf) ("[a]\n\n[a]: b \"\"" ∷ []) (enter 12 ∷ enter 45 ∷ enter 47 ∷ enter 0 ∷ enter 0 ∷ exit 0 0 1 ∷ exit 0 0 1 ∷ enter 48 ∷ enter 5 ∷ exit 5 1 2 ∷ exit 48 1 2 ∷ enter 0 ∷ enter 0 ∷ exit 0 2 3 ∷ exit 0 2 3 ∷ exit 47 0 3 ∷ exit 45 0 3 ∷ exit 12 0 3 ∷ enter 3 ∷ exit 3 3 4 ∷ enter 4 ∷ exit 4 4 5 ∷ enter 53 ∷ enter 0 ∷ enter 0 ∷ exit 0 5 6 ∷ enter 54 ∷ enter 5 ∷ exit 5 6 7 ∷ exit 54 6 7 ∷ enter 0 ∷ exit 0 7 8 ∷ exit 0 5 8 ∷ enter 0 ∷ exit 0 8 9 ∷ enter 1 ∷ exit 1 9 10 ∷ enter 0 ∷ enter 0 ∷ enter 55 ∷ enter 5 ∷ exit 5 10 11 ∷ exit 55 10 11 ∷ exit 0 10 11 ∷ exit 0 10 11 ∷ enter 1 ∷ exit 1 11 12 ∷ enter 0 ∷ enter 0 ∷ exit 0 12 13 ∷ enter 0 ∷ exit 0 13 14 ∷ exit 0 12 14 ∷ exit 53 5 14 ∷ []) ("<p><a href=\"b\">a</a></p>\n" ∷ []))
 unfolding running
 v52 = tt
 
-v53 : T (shows (off Lf) ("[a]: b 'c'\n[a]: d 'e'\n\n[a]" ∷ []) (enter 53 ∷ enter 0 ∷ enter 0 ∷ exit 0 0 1 ∷ enter 54 ∷ enter 5 ∷ exit 5 1 2 ∷ exit 54 1 2 ∷ enter 0 ∷ exit 0 2 3 ∷ exit 0 0 3 ∷ enter 0 ∷ exit 0 3 4 ∷ enter 1 ∷ exit 1 4 5 ∷ enter 0 ∷ enter 0 ∷ enter 55 ∷ enter 5 ∷ exit 5 5 6 ∷ exit 55 5 6 ∷ exit 0 5 6 ∷ exit 0 5 6 ∷ enter 1 ∷ exit 1 6 7 ∷ enter 0 ∷ enter 0 ∷ exit 0 7 8 ∷ enter 56 ∷ enter 5 ∷ exit 5 8 9 ∷ exit 56 8 9 ∷ enter 0 ∷ exit 0 9 10 ∷ exit 0 7 10 ∷ exit 53 0 10 ∷ enter 3 ∷ exit 3 10 11 ∷ enter 53 ∷ enter 0 ∷ enter 0 ∷ exit 0 11 12 ∷ enter 54 ∷ enter 5 ∷ exit 5 12 13 ∷ exit 54 12 13 ∷ enter 0 ∷ exit 0 13 14 ∷ exit 0 11 14 ∷ enter 0 ∷ exit 0 14 15 ∷ enter 1 ∷ exit 1 15 16 ∷ enter 0 ∷ enter 0 ∷ enter 55 ∷ enter 5 ∷ exit 5 16 17 ∷ exit 55 16 17 ∷ exit 0 16 17 ∷ exit 0 16 17 ∷ enter 1 ∷ exit 1 17 18 ∷ enter 0 ∷ enter 0 ∷ exit 0 18 19 ∷ enter 56 ∷ enter 5 ∷ exit 5 19 20 ∷ exit 56 19 20 ∷ enter 0 ∷ exit 0 20 21 ∷ exit 0 18 21 ∷ exit 53 11 21 ∷ enter 3 ∷ exit 3 21 22 ∷ enter 4 ∷ exit 4 22 23 ∷ enter 12 ∷ enter 45 ∷ enter 47 ∷ enter 0 ∷ enter 0 ∷ exit 0 23 24 ∷ exit 0 23 24 ∷ enter 48 ∷ enter 5 ∷ exit 5 24 25 ∷ exit 48 24 25 ∷ enter 0 ∷ enter 0 ∷ exit 0 25 26 ∷ exit 0 25 26 ∷ exit 47 23 26 ∷ exit 45 23 26 ∷ exit 12 23 26 ∷ []) ("<p><a href=\"b\" title=\"c\">a</a></p>" ∷ []))
+v53 : T (shows (off Lf) ("[a]: b \"c\"\n\n![a] [a] [A][a] [x](y)" ∷ []) (enter 53 ∷ enter 0 ∷ enter 0 ∷ exit 0 0 1 ∷ enter 54 ∷ enter 5 ∷ exit 5 1 2 ∷ exit 54 1 2 ∷ enter 0 ∷ exit 0 2 3 ∷ exit 0 0 3 ∷ enter 0 ∷ exit 0 3 4 ∷ enter 1 ∷ exit 1 4 5 ∷ enter 0 ∷ enter 0 ∷ enter 55 ∷ enter 5 ∷ exit 5 5 6 ∷ exit 55 5 6 ∷ exit 0 5 6 ∷ exit 0 5 6 ∷ enter 1 ∷ exit 1 6 7 ∷ enter 0 ∷ enter 0 ∷ exit 0 7 8 ∷ enter 56 ∷ enter 5 ∷ exit 5 8 9 ∷ exit 56 8 9 ∷ enter 0 ∷ exit 0 9 10 ∷ exit 0 7 10 ∷ exit 53 0 10 ∷ enter 3 ∷ exit 3 10 11 ∷ enter 4 ∷ exit 4 11 12 ∷ enter 12 ∷ enter 46 ∷ enter 47 ∷ enter 0 ∷ enter 0 ∷ exit 0 12 13 ∷ enter 0 ∷ exit 0 13 14 ∷ exit 0 12 14 ∷ enter 48 ∷ enter 5 ∷ exit 5 14 15 ∷ exit 48 14 15 ∷ enter 0 ∷ enter 0 ∷ exit 0 15 16 ∷ exit 0 15 16 ∷ exit 47 12 16 ∷ exit 46 12 16 ∷ enter 5 ∷ exit 5 16 17 ∷ enter 45 ∷ enter 47 ∷ enter 0 ∷ enter 0 ∷ exit 0 17 18 ∷ exit 0 17 18 ∷ enter 48 ∷ enter 5 ∷ exit 5 18 19 ∷ exit 48 18 19 ∷ enter 0 ∷ enter 0 ∷ exit 0 19 20 ∷ exit 0 19 20 ∷ exit 47 17 20 ∷ exit 45 17 20 ∷ enter 5 ∷ exit 5 20 21 ∷ enter 45 ∷ enter 47 ∷ enter 0 ∷ enter 0 ∷ exit 0 21 22 ∷ exit 0 21 22 ∷ enter 48 ∷ enter 5 ∷ exit 5 22 23 ∷ exit 48 22 23 ∷ enter 0 ∷ enter 0 ∷ exit 0 23 24 ∷ exit 0 23 24 ∷ exit 47 21 24 ∷ enter 0 ∷ enter 0 ∷ exit 0 24 25 ∷ enter 52 ∷ enter 5 ∷ exit 5 25 26 ∷ exit 52 25 26 ∷ enter 0 ∷ exit 0 26 27 ∷ exit 0 24 27 ∷ exit 45 21 27 ∷ enter 5 ∷ exit 5 27 28 ∷ enter 45 ∷ enter 47 ∷ enter 0 ∷ enter 0 ∷ exit 0 28 29 ∷ exit 0 28 29 ∷ enter 48 ∷ enter 5 ∷ exit 5 29 30 ∷ exit 48 29 30 ∷ enter 0 ∷ enter 0 ∷ exit 0 30 31 ∷ exit 0 30 31 ∷ exit 47 28 31 ∷ enter 49 ∷ enter 0 ∷ exit 0 31 32 ∷ enter 0 ∷ enter 0 ∷ enter 50 ∷ enter 5 ∷ exit 5 32 33 ∷ exit 50 32 33 ∷ exit 0 32 33 ∷ exit 0 32 33 ∷ enter 0 ∷ exit 0 33 34 ∷ exit 49 31 34 ∷ exit 45 28 34 ∷ exit 12 12 34 ∷ []) ("<p><img src=\"b\" alt=\"a\" title=\"c\" /> <a href=\"b\" title=\"c\">a</a> <a href=\"b\" title=\"c\">A</a> <a href=\"y\">x</a></p>" ∷ []))
 unfolding running
 v53 = tt
 
-v54 : T (shows (off Lf) ("- a\n\n  [a]: b\n\n  [c]: d\n\n  e\n- f" ∷ []) (enterWith 22 1 ∷ enter 23 ∷ enter 24 ∷ enter 25 ∷ exit 25 0 1 ∷ enter 1 ∷ exit 1 1 2 ∷ exit 24 0 2 ∷ enter 12 ∷ enter 5 ∷ exit 5 2 3 ∷ exit 12 2 3 ∷ enter 3 ∷ exit 3 3 4 ∷ enter 4 ∷ exit 4 4 5 ∷ enter 1 ∷ exit 1 5 7 ∷ enter 53 ∷ enter 0 ∷ enter 0 ∷ exit 0 7 8 ∷ enter 54 ∷ enter 5 ∷ exit 5 8 9 ∷ exit 54 8 9 ∷ enter 0 ∷ exit 0 9 10 ∷ exit 0 7 10 ∷ enter 0 ∷ exit 0 10 11 ∷ enter 1 ∷ exit 1 11 12 ∷ enter 0 ∷ enter 0 ∷ enter 55 ∷ enter 5 ∷ exit 5 12 13 ∷ exit 55 12 13 ∷ exit 0 12 13 ∷ exit 0 12 13 ∷ exit 53 7 13 ∷ enter 3 ∷ exit 3 13 14 ∷ enter 4 ∷ exit 4 14 15 ∷ enter 1 ∷ exit 1 15 17 ∷ enter 53 ∷ enter 0 ∷ enter 0 ∷ exit 0 17 18 ∷ enter 54 ∷ enter 5 ∷ exit 5 18 19 ∷ exit 54 18 19 ∷ enter 0 ∷ exit 0 19 20 ∷ exit 0 17 20 ∷ enter 0 ∷ exit 0 20 21 ∷ enter 1 ∷ exit 1 21 22 ∷ enter 0 ∷ enter 0 ∷ enter 55 ∷ enter 5 ∷ exit 5 22 23 ∷ exit 55 22 23 ∷ exit 0 22 23 ∷ exit 0 22 23 ∷ exit 53 17 23 ∷ enter 3 ∷ exit 3 23 24 ∷ enter 4 ∷ exit 4 24 25 ∷ enter 1 ∷ exit 1 25 27 ∷ enter 12 ∷ enter 5 ∷ exit 5 27 28 ∷ exit 12 27 28 ∷ exit 23 0 28 ∷ enter 3 ∷ exit 3 28 29 ∷ enter 23 ∷ enter 24 ∷ enter 25 ∷ exit 25 29 30 ∷ enter 1 ∷ exit 1 30 31 ∷ exit 24 29 31 ∷ enter 12 ∷ enter 5 ∷ exit 5 31 32 ∷ exit 12 31 32 ∷ exit 23 29 32 ∷ exit 22 0 32 ∷ []) ("<ul>\n<li>\n<p>a</p>\n<p>e</p>\n</li>\n<li>\n<p>f</p>\n</li>\n</ul>" ∷ []))
+v54 : T (shows (off Lf) ("[a][b]\n\n[a]: c\n[b]: d" ∷ []) (enter 12 ∷ enter 45 ∷ enter 47 ∷ enter 0 ∷ enter 0 ∷ exit 0 0 1 ∷ exit 0 0 1 ∷ enter 48 ∷ enter 5 ∷ exit 5 1 2 ∷ exit 48 1 2 ∷ enter 0 ∷ enter 0 ∷ exit 0 2 3 ∷ exit 0 2 3 ∷ exit 47 0 3 ∷ enter 0 ∷ enter 0 ∷ exit 0 3 4 ∷ enter 52 ∷ enter 5 ∷ exit 5 4 5 ∷ exit 52 4 5 ∷ enter 0 ∷ exit 0 5 6 ∷ exit 0 3 6 ∷ exit 45 0 6 ∷ exit 12 0 6 ∷ enter 3 ∷ exit 3 6 7 ∷ enter 4 ∷ exit 4 7 8 ∷ enter 53 ∷ enter 0 ∷ enter 0 ∷ exit 0 8 9 ∷ enter 54 ∷ enter 5 ∷ exit 5 9 10 ∷ exit 54 9 10 ∷ enter 0 ∷ exit 0 10 11 ∷ exit 0 8 11 ∷ enter 0 ∷ exit 0 11 12 ∷ enter 1 ∷ exit 1 12 13 ∷ enter 0 ∷ enter 0 ∷ enter 55 ∷ enter 5 ∷ exit 5 13 14 ∷ exit 55 13 14 ∷ exit 0 13 14 ∷ exit 0 13 14 ∷ exit 53 8 14 ∷ enter 3 ∷ exit 3 14 15 ∷ enter 53 ∷ enter 0 ∷ enter 0 ∷ exit 0 15 16 ∷ enter 54 ∷ enter 5 ∷ exit 5 16 17 ∷ exit 54 16 17 ∷ enter 0 ∷ exit 0 17 18 ∷ exit 0 15 18 ∷ enter 0 ∷ exit 0 18 19 ∷ enter 1 ∷ exit 1 19 20 ∷ enter 0 ∷ enter 0 ∷ enter 55 ∷ enter 5 ∷ exit 5 20 21 ∷ exit 55 20 21 ∷ exit 0 20 21 ∷ exit 0 20 21 ∷ exit 53 15 21 ∷ []) ("<p><a href=\"d\">a</a></p>\n" ∷ []))
 unfolding running
 v54 = tt
+
+v55 : T (shows (off Lf) ("[a]: b 'c'\n[a]: d 'e'\n\n[a]" ∷ []) (enter 53 ∷ enter 0 ∷ enter 0 ∷ exit 0 0 1 ∷ enter 54 ∷ enter 5 ∷ exit 5 1 2 ∷ exit 54 1 2 ∷ enter 0 ∷ exit 0 2 3 ∷ exit 0 0 3 ∷ enter 0 ∷ exit 0 3 4 ∷ enter 1 ∷ exit 1 4 5 ∷ enter 0 ∷ enter 0 ∷ enter 55 ∷ enter 5 ∷ exit 5 5 6 ∷ exit 55 5 6 ∷ exit 0 5 6 ∷ exit 0 5 6 ∷ enter 1 ∷ exit 1 6 7 ∷ enter 0 ∷ enter 0 ∷ exit 0 7 8 ∷ enter 56 ∷ enter 5 ∷ exit 5 8 9 ∷ exit 56 8 9 ∷ enter 0 ∷ exit 0 9 10 ∷ exit 0 7 10 ∷ exit 53 0 10 ∷ enter 3 ∷ exit 3 10 11 ∷ enter 53 ∷ enter 0 ∷ enter 0 ∷ exit 0 11 12 ∷ enter 54 ∷ enter 5 ∷ exit 5 12 13 ∷ exit 54 12 13 ∷ enter 0 ∷ exit 0 13 14 ∷ exit 0 11 14 ∷ enter 0 ∷ exit 0 14 15 ∷ enter 1 ∷ exit 1 15 16 ∷ enter 0 ∷ enter 0 ∷ enter 55 ∷ enter 5 ∷ exit 5 16 17 ∷ exit 55 16 17 ∷ exit 0 16 17 ∷ exit 0 16 17 ∷ enter 1 ∷ exit 1 17 18 ∷ enter 0 ∷ enter 0 ∷ exit 0 18 19 ∷ enter 56 ∷ enter 5 ∷ exit 5 19 20 ∷ exit 56 19 20 ∷ enter 0 ∷ exit 0 20 21 ∷ exit 0 18 21 ∷ exit 53 11 21 ∷ enter 3 ∷ exit 3 21 22 ∷ enter 4 ∷ exit 4 22 23 ∷ enter 12 ∷ enter 45 ∷ enter 47 ∷ enter 0 ∷ enter 0 ∷ exit 0 23 24 ∷ exit 0 23 24 ∷ enter 48 ∷ enter 5 ∷ exit 5 24 25 ∷ exit 48 24 25 ∷ enter 0 ∷ enter 0 ∷ exit 0 25 26 ∷ exit 0 25 26 ∷ exit 47 23 26 ∷ exit 45 23 26 ∷ exit 12 23 26 ∷ []) ("<p><a href=\"b\" title=\"c\">a</a></p>" ∷ []))
+unfolding running
+v55 = tt
+
+v56 : T (shows (off Lf) ("- a\n\n  [a]: b\n\n  [c]: d\n\n  e\n- f" ∷ []) (enterWith 22 1 ∷ enter 23 ∷ enter 24 ∷ enter 25 ∷ exit 25 0 1 ∷ enter 1 ∷ exit 1 1 2 ∷ exit 24 0 2 ∷ enter 12 ∷ enter 5 ∷ exit 5 2 3 ∷ exit 12 2 3 ∷ enter 3 ∷ exit 3 3 4 ∷ enter 4 ∷ exit 4 4 5 ∷ enter 1 ∷ exit 1 5 7 ∷ enter 53 ∷ enter 0 ∷ enter 0 ∷ exit 0 7 8 ∷ enter 54 ∷ enter 5 ∷ exit 5 8 9 ∷ exit 54 8 9 ∷ enter 0 ∷ exit 0 9 10 ∷ exit 0 7 10 ∷ enter 0 ∷ exit 0 10 11 ∷ enter 1 ∷ exit 1 11 12 ∷ enter 0 ∷ enter 0 ∷ enter 55 ∷ enter 5 ∷ exit 5 12 13 ∷ exit 55 12 13 ∷ exit 0 12 13 ∷ exit 0 12 13 ∷ exit 53 7 13 ∷ enter 3 ∷ exit 3 13 14 ∷ enter 4 ∷ exit 4 14 15 ∷ enter 1 ∷ exit 1 15 17 ∷ enter 53 ∷ enter 0 ∷ enter 0 ∷ exit 0 17 18 ∷ enter 54 ∷ enter 5 ∷ exit 5 18 19 ∷ exit 54 18 19 ∷ enter 0 ∷ exit 0 19 20 ∷ exit 0 17 20 ∷ enter 0 ∷ exit 0 20 21 ∷ enter 1 ∷ exit 1 21 22 ∷ enter 0 ∷ enter 0 ∷ enter 55 ∷ enter 5 ∷ exit 5 22 23 ∷ exit 55 22 23 ∷ exit 0 22 23 ∷ exit 0 22 23 ∷ exit 53 17 23 ∷ enter 3 ∷ exit 3 23 24 ∷ enter 4 ∷ exit 4 24 25 ∷ enter 1 ∷ exit 1 25 27 ∷ enter 12 ∷ enter 5 ∷ exit 5 27 28 ∷ exit 12 27 28 ∷ exit 23 0 28 ∷ enter 3 ∷ exit 3 28 29 ∷ enter 23 ∷ enter 24 ∷ enter 25 ∷ exit 25 29 30 ∷ enter 1 ∷ exit 1 30 31 ∷ exit 24 29 31 ∷ enter 12 ∷ enter 5 ∷ exit 5 31 32 ∷ exit 12 31 32 ∷ exit 23 29 32 ∷ exit 22 0 32 ∷ []) ("<ul>\n<li>\n<p>a</p>\n<p>e</p>\n</li>\n<li>\n<p>f</p>\n</li>\n</ul>" ∷ []))
+unfolding running
+v56 = tt

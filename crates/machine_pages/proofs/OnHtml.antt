@@ -3,7 +3,7 @@ use mathlib.Core.List.{[], _∷_}
 use lib.Dec.{T}
 use Rattle.machine.specs.declared.Ending.the-variants.{Lf, Cr, CrLf}
 use Rattle.machine.proofs.Running.{running}
-use Rattle.machine.proofs.Answers.{shows, stops, off, html, protocol, images, on, enter, exit, enterWith, exitWith}
+use Rattle.machine.proofs.Answers.{shows, stops, off, html, protocol, images, on, quoted, quotedOn, enter, exit, enterWith, exitWith}
 
 v1 : T (shows (off Lf) ("<div>\na\n</div>\n" ∷ []) (enter 35 ∷ enter 36 ∷ exit 36 0 5 ∷ enter 3 ∷ exit 3 5 6 ∷ enter 36 ∷ exit 36 6 7 ∷ enter 3 ∷ exit 3 7 8 ∷ enter 36 ∷ exit 36 8 14 ∷ exit 35 0 14 ∷ enter 3 ∷ exit 3 14 15 ∷ []) ("&lt;div&gt;\na\n&lt;/div&gt;\n" ∷ []))
 unfolding running
@@ -161,146 +161,150 @@ v39 : T (shows (on Lf) ("a <b c='d\ne'> f" ∷ []) (enter 12 ∷ enter 5 ∷ exi
 unfolding running
 v39 = tt
 
-v40 : T (shows (off Lf) ("a <!-- b\nc --> d" ∷ []) (enter 12 ∷ enter 5 ∷ exit 5 0 2 ∷ enter 37 ∷ enter 38 ∷ exit 38 2 8 ∷ enter 3 ∷ exit 3 8 9 ∷ enter 38 ∷ exit 38 9 14 ∷ exit 37 2 14 ∷ enter 5 ∷ exit 5 14 16 ∷ exit 12 0 16 ∷ []) ("<p>a &lt;!-- b\nc --&gt; d</p>" ∷ []))
+v40 : T (shows (quoted Lf) ("a <b c='d\ne'> f" ∷ []) (enter 12 ∷ enter 5 ∷ exit 5 0 2 ∷ enter 37 ∷ enter 38 ∷ exit 38 2 9 ∷ enter 3 ∷ exit 3 9 10 ∷ enter 38 ∷ exit 38 10 13 ∷ exit 37 2 13 ∷ enter 5 ∷ exit 5 13 15 ∷ exit 12 0 15 ∷ []) ("<p>a &lt;b c=&#39;d\ne&#39;&gt; f</p>" ∷ []))
 unfolding running
 v40 = tt
 
-v41 : T (shows (html Lf) ("a <!-- b\nc --> d" ∷ []) (enter 12 ∷ enter 5 ∷ exit 5 0 2 ∷ enter 37 ∷ enter 38 ∷ exit 38 2 8 ∷ enter 3 ∷ exit 3 8 9 ∷ enter 38 ∷ exit 38 9 14 ∷ exit 37 2 14 ∷ enter 5 ∷ exit 5 14 16 ∷ exit 12 0 16 ∷ []) ("<p>a <!-- b\nc --> d</p>" ∷ []))
+v41 : T (shows (off Lf) ("a <!-- b\nc --> d" ∷ []) (enter 12 ∷ enter 5 ∷ exit 5 0 2 ∷ enter 37 ∷ enter 38 ∷ exit 38 2 8 ∷ enter 3 ∷ exit 3 8 9 ∷ enter 38 ∷ exit 38 9 14 ∷ exit 37 2 14 ∷ enter 5 ∷ exit 5 14 16 ∷ exit 12 0 16 ∷ []) ("<p>a &lt;!-- b\nc --&gt; d</p>" ∷ []))
 unfolding running
 v41 = tt
 
-v42 : T (shows (on Lf) ("a <!-- b\nc --> d" ∷ []) (enter 12 ∷ enter 5 ∷ exit 5 0 2 ∷ enter 37 ∷ enter 38 ∷ exit 38 2 8 ∷ enter 3 ∷ exit 3 8 9 ∷ enter 38 ∷ exit 38 9 14 ∷ exit 37 2 14 ∷ enter 5 ∷ exit 5 14 16 ∷ exit 12 0 16 ∷ []) ("<p>a <!-- b\nc --> d</p>" ∷ []))
+v42 : T (shows (html Lf) ("a <!-- b\nc --> d" ∷ []) (enter 12 ∷ enter 5 ∷ exit 5 0 2 ∷ enter 37 ∷ enter 38 ∷ exit 38 2 8 ∷ enter 3 ∷ exit 3 8 9 ∷ enter 38 ∷ exit 38 9 14 ∷ exit 37 2 14 ∷ enter 5 ∷ exit 5 14 16 ∷ exit 12 0 16 ∷ []) ("<p>a <!-- b\nc --> d</p>" ∷ []))
 unfolding running
 v42 = tt
 
-v43 : T (shows (off Lf) ("a </b> <?c?> <!D e> <![CDATA[f]]>" ∷ []) (enter 12 ∷ enter 5 ∷ exit 5 0 2 ∷ enter 37 ∷ enter 38 ∷ exit 38 2 6 ∷ exit 37 2 6 ∷ enter 5 ∷ exit 5 6 7 ∷ enter 37 ∷ enter 38 ∷ exit 38 7 12 ∷ exit 37 7 12 ∷ enter 5 ∷ exit 5 12 13 ∷ enter 37 ∷ enter 38 ∷ exit 38 13 19 ∷ exit 37 13 19 ∷ enter 5 ∷ exit 5 19 20 ∷ enter 37 ∷ enter 38 ∷ exit 38 20 33 ∷ exit 37 20 33 ∷ exit 12 0 33 ∷ []) ("<p>a &lt;/b&gt; &lt;?c?&gt; &lt;!D e&gt; &lt;![CDATA[f]]&gt;</p>" ∷ []))
+v43 : T (shows (on Lf) ("a <!-- b\nc --> d" ∷ []) (enter 12 ∷ enter 5 ∷ exit 5 0 2 ∷ enter 37 ∷ enter 38 ∷ exit 38 2 8 ∷ enter 3 ∷ exit 3 8 9 ∷ enter 38 ∷ exit 38 9 14 ∷ exit 37 2 14 ∷ enter 5 ∷ exit 5 14 16 ∷ exit 12 0 16 ∷ []) ("<p>a <!-- b\nc --> d</p>" ∷ []))
 unfolding running
 v43 = tt
 
-v44 : T (shows (html Lf) ("a </b> <?c?> <!D e> <![CDATA[f]]>" ∷ []) (enter 12 ∷ enter 5 ∷ exit 5 0 2 ∷ enter 37 ∷ enter 38 ∷ exit 38 2 6 ∷ exit 37 2 6 ∷ enter 5 ∷ exit 5 6 7 ∷ enter 37 ∷ enter 38 ∷ exit 38 7 12 ∷ exit 37 7 12 ∷ enter 5 ∷ exit 5 12 13 ∷ enter 37 ∷ enter 38 ∷ exit 38 13 19 ∷ exit 37 13 19 ∷ enter 5 ∷ exit 5 19 20 ∷ enter 37 ∷ enter 38 ∷ exit 38 20 33 ∷ exit 37 20 33 ∷ exit 12 0 33 ∷ []) ("<p>a </b> <?c?> <!D e> <![CDATA[f]]></p>" ∷ []))
+v44 : T (shows (off Lf) ("a </b> <?c?> <!D e> <![CDATA[f]]>" ∷ []) (enter 12 ∷ enter 5 ∷ exit 5 0 2 ∷ enter 37 ∷ enter 38 ∷ exit 38 2 6 ∷ exit 37 2 6 ∷ enter 5 ∷ exit 5 6 7 ∷ enter 37 ∷ enter 38 ∷ exit 38 7 12 ∷ exit 37 7 12 ∷ enter 5 ∷ exit 5 12 13 ∷ enter 37 ∷ enter 38 ∷ exit 38 13 19 ∷ exit 37 13 19 ∷ enter 5 ∷ exit 5 19 20 ∷ enter 37 ∷ enter 38 ∷ exit 38 20 33 ∷ exit 37 20 33 ∷ exit 12 0 33 ∷ []) ("<p>a &lt;/b&gt; &lt;?c?&gt; &lt;!D e&gt; &lt;![CDATA[f]]&gt;</p>" ∷ []))
 unfolding running
 v44 = tt
 
-v45 : T (shows (on Lf) ("a </b> <?c?> <!D e> <![CDATA[f]]>" ∷ []) (enter 12 ∷ enter 5 ∷ exit 5 0 2 ∷ enter 37 ∷ enter 38 ∷ exit 38 2 6 ∷ exit 37 2 6 ∷ enter 5 ∷ exit 5 6 7 ∷ enter 37 ∷ enter 38 ∷ exit 38 7 12 ∷ exit 37 7 12 ∷ enter 5 ∷ exit 5 12 13 ∷ enter 37 ∷ enter 38 ∷ exit 38 13 19 ∷ exit 37 13 19 ∷ enter 5 ∷ exit 5 19 20 ∷ enter 37 ∷ enter 38 ∷ exit 38 20 33 ∷ exit 37 20 33 ∷ exit 12 0 33 ∷ []) ("<p>a </b> <?c?> <!D e> <![CDATA[f]]></p>" ∷ []))
+v45 : T (shows (html Lf) ("a </b> <?c?> <!D e> <![CDATA[f]]>" ∷ []) (enter 12 ∷ enter 5 ∷ exit 5 0 2 ∷ enter 37 ∷ enter 38 ∷ exit 38 2 6 ∷ exit 37 2 6 ∷ enter 5 ∷ exit 5 6 7 ∷ enter 37 ∷ enter 38 ∷ exit 38 7 12 ∷ exit 37 7 12 ∷ enter 5 ∷ exit 5 12 13 ∷ enter 37 ∷ enter 38 ∷ exit 38 13 19 ∷ exit 37 13 19 ∷ enter 5 ∷ exit 5 19 20 ∷ enter 37 ∷ enter 38 ∷ exit 38 20 33 ∷ exit 37 20 33 ∷ exit 12 0 33 ∷ []) ("<p>a </b> <?c?> <!D e> <![CDATA[f]]></p>" ∷ []))
 unfolding running
 v45 = tt
 
-v46 : T (shows (off Lf) ("<b>a</b>\n" ∷ []) (enter 12 ∷ enter 37 ∷ enter 38 ∷ exit 38 0 3 ∷ exit 37 0 3 ∷ enter 5 ∷ exit 5 3 4 ∷ enter 37 ∷ enter 38 ∷ exit 38 4 8 ∷ exit 37 4 8 ∷ exit 12 0 8 ∷ enter 3 ∷ exit 3 8 9 ∷ []) ("<p>&lt;b&gt;a&lt;/b&gt;</p>\n" ∷ []))
+v46 : T (shows (on Lf) ("a </b> <?c?> <!D e> <![CDATA[f]]>" ∷ []) (enter 12 ∷ enter 5 ∷ exit 5 0 2 ∷ enter 37 ∷ enter 38 ∷ exit 38 2 6 ∷ exit 37 2 6 ∷ enter 5 ∷ exit 5 6 7 ∷ enter 37 ∷ enter 38 ∷ exit 38 7 12 ∷ exit 37 7 12 ∷ enter 5 ∷ exit 5 12 13 ∷ enter 37 ∷ enter 38 ∷ exit 38 13 19 ∷ exit 37 13 19 ∷ enter 5 ∷ exit 5 19 20 ∷ enter 37 ∷ enter 38 ∷ exit 38 20 33 ∷ exit 37 20 33 ∷ exit 12 0 33 ∷ []) ("<p>a </b> <?c?> <!D e> <![CDATA[f]]></p>" ∷ []))
 unfolding running
 v46 = tt
 
-v47 : T (shows (html Lf) ("<b>a</b>\n" ∷ []) (enter 12 ∷ enter 37 ∷ enter 38 ∷ exit 38 0 3 ∷ exit 37 0 3 ∷ enter 5 ∷ exit 5 3 4 ∷ enter 37 ∷ enter 38 ∷ exit 38 4 8 ∷ exit 37 4 8 ∷ exit 12 0 8 ∷ enter 3 ∷ exit 3 8 9 ∷ []) ("<p><b>a</b></p>\n" ∷ []))
+v47 : T (shows (off Lf) ("<b>a</b>\n" ∷ []) (enter 12 ∷ enter 37 ∷ enter 38 ∷ exit 38 0 3 ∷ exit 37 0 3 ∷ enter 5 ∷ exit 5 3 4 ∷ enter 37 ∷ enter 38 ∷ exit 38 4 8 ∷ exit 37 4 8 ∷ exit 12 0 8 ∷ enter 3 ∷ exit 3 8 9 ∷ []) ("<p>&lt;b&gt;a&lt;/b&gt;</p>\n" ∷ []))
 unfolding running
 v47 = tt
 
-v48 : T (shows (on Lf) ("<b>a</b>\n" ∷ []) (enter 12 ∷ enter 37 ∷ enter 38 ∷ exit 38 0 3 ∷ exit 37 0 3 ∷ enter 5 ∷ exit 5 3 4 ∷ enter 37 ∷ enter 38 ∷ exit 38 4 8 ∷ exit 37 4 8 ∷ exit 12 0 8 ∷ enter 3 ∷ exit 3 8 9 ∷ []) ("<p><b>a</b></p>\n" ∷ []))
+v48 : T (shows (html Lf) ("<b>a</b>\n" ∷ []) (enter 12 ∷ enter 37 ∷ enter 38 ∷ exit 38 0 3 ∷ exit 37 0 3 ∷ enter 5 ∷ exit 5 3 4 ∷ enter 37 ∷ enter 38 ∷ exit 38 4 8 ∷ exit 37 4 8 ∷ exit 12 0 8 ∷ enter 3 ∷ exit 3 8 9 ∷ []) ("<p><b>a</b></p>\n" ∷ []))
 unfolding running
 v48 = tt
 
-v49 : T (shows (off Lf) ("</p>" ∷ []) (enter 35 ∷ enter 36 ∷ exit 36 0 4 ∷ exit 35 0 4 ∷ []) ("&lt;/p&gt;" ∷ []))
+v49 : T (shows (on Lf) ("<b>a</b>\n" ∷ []) (enter 12 ∷ enter 37 ∷ enter 38 ∷ exit 38 0 3 ∷ exit 37 0 3 ∷ enter 5 ∷ exit 5 3 4 ∷ enter 37 ∷ enter 38 ∷ exit 38 4 8 ∷ exit 37 4 8 ∷ exit 12 0 8 ∷ enter 3 ∷ exit 3 8 9 ∷ []) ("<p><b>a</b></p>\n" ∷ []))
 unfolding running
 v49 = tt
 
-v50 : T (shows (html Lf) ("</p>" ∷ []) (enter 35 ∷ enter 36 ∷ exit 36 0 4 ∷ exit 35 0 4 ∷ []) ("</p>" ∷ []))
+v50 : T (shows (off Lf) ("</p>" ∷ []) (enter 35 ∷ enter 36 ∷ exit 36 0 4 ∷ exit 35 0 4 ∷ []) ("&lt;/p&gt;" ∷ []))
 unfolding running
 v50 = tt
 
-v51 : T (shows (on Lf) ("</p>" ∷ []) (enter 35 ∷ enter 36 ∷ exit 36 0 4 ∷ exit 35 0 4 ∷ []) ("</p>" ∷ []))
+v51 : T (shows (html Lf) ("</p>" ∷ []) (enter 35 ∷ enter 36 ∷ exit 36 0 4 ∷ exit 35 0 4 ∷ []) ("</p>" ∷ []))
 unfolding running
 v51 = tt
 
-v52 : T (shows (off Lf) ("<p>a</p>" ∷ []) (enter 35 ∷ enter 36 ∷ exit 36 0 8 ∷ exit 35 0 8 ∷ []) ("&lt;p&gt;a&lt;/p&gt;" ∷ []))
+v52 : T (shows (on Lf) ("</p>" ∷ []) (enter 35 ∷ enter 36 ∷ exit 36 0 4 ∷ exit 35 0 4 ∷ []) ("</p>" ∷ []))
 unfolding running
 v52 = tt
 
-v53 : T (shows (html Lf) ("<p>a</p>" ∷ []) (enter 35 ∷ enter 36 ∷ exit 36 0 8 ∷ exit 35 0 8 ∷ []) ("<p>a</p>" ∷ []))
+v53 : T (shows (off Lf) ("<p>a</p>" ∷ []) (enter 35 ∷ enter 36 ∷ exit 36 0 8 ∷ exit 35 0 8 ∷ []) ("&lt;p&gt;a&lt;/p&gt;" ∷ []))
 unfolding running
 v53 = tt
 
-v54 : T (shows (on Lf) ("<p>a</p>" ∷ []) (enter 35 ∷ enter 36 ∷ exit 36 0 8 ∷ exit 35 0 8 ∷ []) ("<p>a</p>" ∷ []))
+v54 : T (shows (html Lf) ("<p>a</p>" ∷ []) (enter 35 ∷ enter 36 ∷ exit 36 0 8 ∷ exit 35 0 8 ∷ []) ("<p>a</p>" ∷ []))
 unfolding running
 v54 = tt
 
-v55 : T (shows (off Lf) ("a <b\n\tc> d" ∷ []) (enter 12 ∷ enter 5 ∷ exit 5 0 2 ∷ enter 37 ∷ enter 38 ∷ exit 38 2 4 ∷ enter 3 ∷ exit 3 4 5 ∷ enter 1 ∷ exit 1 5 6 ∷ enter 38 ∷ exit 38 6 8 ∷ exit 37 2 8 ∷ enter 5 ∷ exit 5 8 10 ∷ exit 12 0 10 ∷ []) ("<p>a &lt;b\nc&gt; d</p>" ∷ []))
+v55 : T (shows (on Lf) ("<p>a</p>" ∷ []) (enter 35 ∷ enter 36 ∷ exit 36 0 8 ∷ exit 35 0 8 ∷ []) ("<p>a</p>" ∷ []))
 unfolding running
 v55 = tt
 
-v56 : T (shows (html Lf) ("a <b\n\tc> d" ∷ []) (enter 12 ∷ enter 5 ∷ exit 5 0 2 ∷ enter 37 ∷ enter 38 ∷ exit 38 2 4 ∷ enter 3 ∷ exit 3 4 5 ∷ enter 1 ∷ exit 1 5 6 ∷ enter 38 ∷ exit 38 6 8 ∷ exit 37 2 8 ∷ enter 5 ∷ exit 5 8 10 ∷ exit 12 0 10 ∷ []) ("<p>a <b\nc> d</p>" ∷ []))
+v56 : T (shows (off Lf) ("a <b\n\tc> d" ∷ []) (enter 12 ∷ enter 5 ∷ exit 5 0 2 ∷ enter 37 ∷ enter 38 ∷ exit 38 2 4 ∷ enter 3 ∷ exit 3 4 5 ∷ enter 1 ∷ exit 1 5 6 ∷ enter 38 ∷ exit 38 6 8 ∷ exit 37 2 8 ∷ enter 5 ∷ exit 5 8 10 ∷ exit 12 0 10 ∷ []) ("<p>a &lt;b\nc&gt; d</p>" ∷ []))
 unfolding running
 v56 = tt
 
-v57 : T (shows (on Lf) ("a <b\n\tc> d" ∷ []) (enter 12 ∷ enter 5 ∷ exit 5 0 2 ∷ enter 37 ∷ enter 38 ∷ exit 38 2 4 ∷ enter 3 ∷ exit 3 4 5 ∷ enter 1 ∷ exit 1 5 6 ∷ enter 38 ∷ exit 38 6 8 ∷ exit 37 2 8 ∷ enter 5 ∷ exit 5 8 10 ∷ exit 12 0 10 ∷ []) ("<p>a <b\nc> d</p>" ∷ []))
+v57 : T (shows (html Lf) ("a <b\n\tc> d" ∷ []) (enter 12 ∷ enter 5 ∷ exit 5 0 2 ∷ enter 37 ∷ enter 38 ∷ exit 38 2 4 ∷ enter 3 ∷ exit 3 4 5 ∷ enter 1 ∷ exit 1 5 6 ∷ enter 38 ∷ exit 38 6 8 ∷ exit 37 2 8 ∷ enter 5 ∷ exit 5 8 10 ∷ exit 12 0 10 ∷ []) ("<p>a <b\nc> d</p>" ∷ []))
 unfolding running
 v57 = tt
 
-v58 : T (shows (off Lf) ("> a <b\n> c> d" ∷ []) (enter 20 ∷ enter 2 ∷ enter 0 ∷ exit 0 0 1 ∷ enter 1 ∷ exit 1 1 2 ∷ exit 2 0 2 ∷ enter 12 ∷ enter 5 ∷ exit 5 2 4 ∷ enter 37 ∷ enter 38 ∷ exit 38 4 6 ∷ enter 3 ∷ exit 3 6 7 ∷ enter 2 ∷ enter 0 ∷ exit 0 7 8 ∷ enter 1 ∷ exit 1 8 9 ∷ exit 2 7 9 ∷ enter 38 ∷ exit 38 9 11 ∷ exit 37 4 11 ∷ enter 5 ∷ exit 5 11 13 ∷ exit 12 2 13 ∷ exit 20 0 13 ∷ []) ("<blockquote>\n<p>a &lt;b\nc&gt; d</p>\n</blockquote>" ∷ []))
+v58 : T (shows (on Lf) ("a <b\n\tc> d" ∷ []) (enter 12 ∷ enter 5 ∷ exit 5 0 2 ∷ enter 37 ∷ enter 38 ∷ exit 38 2 4 ∷ enter 3 ∷ exit 3 4 5 ∷ enter 1 ∷ exit 1 5 6 ∷ enter 38 ∷ exit 38 6 8 ∷ exit 37 2 8 ∷ enter 5 ∷ exit 5 8 10 ∷ exit 12 0 10 ∷ []) ("<p>a <b\nc> d</p>" ∷ []))
 unfolding running
 v58 = tt
 
-v59 : T (shows (html Lf) ("> a <b\n> c> d" ∷ []) (enter 20 ∷ enter 2 ∷ enter 0 ∷ exit 0 0 1 ∷ enter 1 ∷ exit 1 1 2 ∷ exit 2 0 2 ∷ enter 12 ∷ enter 5 ∷ exit 5 2 4 ∷ enter 37 ∷ enter 38 ∷ exit 38 4 6 ∷ enter 3 ∷ exit 3 6 7 ∷ enter 2 ∷ enter 0 ∷ exit 0 7 8 ∷ enter 1 ∷ exit 1 8 9 ∷ exit 2 7 9 ∷ enter 38 ∷ exit 38 9 11 ∷ exit 37 4 11 ∷ enter 5 ∷ exit 5 11 13 ∷ exit 12 2 13 ∷ exit 20 0 13 ∷ []) ("<blockquote>\n<p>a <b\nc> d</p>\n</blockquote>" ∷ []))
+v59 : T (shows (off Lf) ("> a <b\n> c> d" ∷ []) (enter 20 ∷ enter 2 ∷ enter 0 ∷ exit 0 0 1 ∷ enter 1 ∷ exit 1 1 2 ∷ exit 2 0 2 ∷ enter 12 ∷ enter 5 ∷ exit 5 2 4 ∷ enter 37 ∷ enter 38 ∷ exit 38 4 6 ∷ enter 3 ∷ exit 3 6 7 ∷ enter 2 ∷ enter 0 ∷ exit 0 7 8 ∷ enter 1 ∷ exit 1 8 9 ∷ exit 2 7 9 ∷ enter 38 ∷ exit 38 9 11 ∷ exit 37 4 11 ∷ enter 5 ∷ exit 5 11 13 ∷ exit 12 2 13 ∷ exit 20 0 13 ∷ []) ("<blockquote>\n<p>a &lt;b\nc&gt; d</p>\n</blockquote>" ∷ []))
 unfolding running
 v59 = tt
 
-v60 : T (shows (on Lf) ("> a <b\n> c> d" ∷ []) (enter 20 ∷ enter 2 ∷ enter 0 ∷ exit 0 0 1 ∷ enter 1 ∷ exit 1 1 2 ∷ exit 2 0 2 ∷ enter 12 ∷ enter 5 ∷ exit 5 2 4 ∷ enter 37 ∷ enter 38 ∷ exit 38 4 6 ∷ enter 3 ∷ exit 3 6 7 ∷ enter 2 ∷ enter 0 ∷ exit 0 7 8 ∷ enter 1 ∷ exit 1 8 9 ∷ exit 2 7 9 ∷ enter 38 ∷ exit 38 9 11 ∷ exit 37 4 11 ∷ enter 5 ∷ exit 5 11 13 ∷ exit 12 2 13 ∷ exit 20 0 13 ∷ []) ("<blockquote>\n<p>a <b\nc> d</p>\n</blockquote>" ∷ []))
+v60 : T (shows (html Lf) ("> a <b\n> c> d" ∷ []) (enter 20 ∷ enter 2 ∷ enter 0 ∷ exit 0 0 1 ∷ enter 1 ∷ exit 1 1 2 ∷ exit 2 0 2 ∷ enter 12 ∷ enter 5 ∷ exit 5 2 4 ∷ enter 37 ∷ enter 38 ∷ exit 38 4 6 ∷ enter 3 ∷ exit 3 6 7 ∷ enter 2 ∷ enter 0 ∷ exit 0 7 8 ∷ enter 1 ∷ exit 1 8 9 ∷ exit 2 7 9 ∷ enter 38 ∷ exit 38 9 11 ∷ exit 37 4 11 ∷ enter 5 ∷ exit 5 11 13 ∷ exit 12 2 13 ∷ exit 20 0 13 ∷ []) ("<blockquote>\n<p>a <b\nc> d</p>\n</blockquote>" ∷ []))
 unfolding running
 v60 = tt
 
-v61 : T (shows (off Lf) ("<!--\n\n-->" ∷ []) (enter 35 ∷ enter 36 ∷ exit 36 0 4 ∷ enter 3 ∷ exit 3 4 5 ∷ enter 3 ∷ exit 3 5 6 ∷ enter 36 ∷ exit 36 6 9 ∷ exit 35 0 9 ∷ []) ("&lt;!--\n\n--&gt;" ∷ []))
+v61 : T (shows (on Lf) ("> a <b\n> c> d" ∷ []) (enter 20 ∷ enter 2 ∷ enter 0 ∷ exit 0 0 1 ∷ enter 1 ∷ exit 1 1 2 ∷ exit 2 0 2 ∷ enter 12 ∷ enter 5 ∷ exit 5 2 4 ∷ enter 37 ∷ enter 38 ∷ exit 38 4 6 ∷ enter 3 ∷ exit 3 6 7 ∷ enter 2 ∷ enter 0 ∷ exit 0 7 8 ∷ enter 1 ∷ exit 1 8 9 ∷ exit 2 7 9 ∷ enter 38 ∷ exit 38 9 11 ∷ exit 37 4 11 ∷ enter 5 ∷ exit 5 11 13 ∷ exit 12 2 13 ∷ exit 20 0 13 ∷ []) ("<blockquote>\n<p>a <b\nc> d</p>\n</blockquote>" ∷ []))
 unfolding running
 v61 = tt
 
-v62 : T (shows (html Lf) ("<!--\n\n-->" ∷ []) (enter 35 ∷ enter 36 ∷ exit 36 0 4 ∷ enter 3 ∷ exit 3 4 5 ∷ enter 3 ∷ exit 3 5 6 ∷ enter 36 ∷ exit 36 6 9 ∷ exit 35 0 9 ∷ []) ("<!--\n\n-->" ∷ []))
+v62 : T (shows (off Lf) ("<!--\n\n-->" ∷ []) (enter 35 ∷ enter 36 ∷ exit 36 0 4 ∷ enter 3 ∷ exit 3 4 5 ∷ enter 3 ∷ exit 3 5 6 ∷ enter 36 ∷ exit 36 6 9 ∷ exit 35 0 9 ∷ []) ("&lt;!--\n\n--&gt;" ∷ []))
 unfolding running
 v62 = tt
 
-v63 : T (shows (on Lf) ("<!--\n\n-->" ∷ []) (enter 35 ∷ enter 36 ∷ exit 36 0 4 ∷ enter 3 ∷ exit 3 4 5 ∷ enter 3 ∷ exit 3 5 6 ∷ enter 36 ∷ exit 36 6 9 ∷ exit 35 0 9 ∷ []) ("<!--\n\n-->" ∷ []))
+v63 : T (shows (html Lf) ("<!--\n\n-->" ∷ []) (enter 35 ∷ enter 36 ∷ exit 36 0 4 ∷ enter 3 ∷ exit 3 4 5 ∷ enter 3 ∷ exit 3 5 6 ∷ enter 36 ∷ exit 36 6 9 ∷ exit 35 0 9 ∷ []) ("<!--\n\n-->" ∷ []))
 unfolding running
 v63 = tt
 
-v64 : T (shows (off Lf) ("  <div>\n  \0" ∷ []) (enter 35 ∷ enter 36 ∷ exit 36 0 2 ∷ enter 36 ∷ exit 36 2 7 ∷ enter 3 ∷ exit 3 7 8 ∷ enter 36 ∷ exit 36 8 11 ∷ exit 35 0 11 ∷ []) ("  &lt;div&gt;\n  ï¿½" ∷ []))
+v64 : T (shows (on Lf) ("<!--\n\n-->" ∷ []) (enter 35 ∷ enter 36 ∷ exit 36 0 4 ∷ enter 3 ∷ exit 3 4 5 ∷ enter 3 ∷ exit 3 5 6 ∷ enter 36 ∷ exit 36 6 9 ∷ exit 35 0 9 ∷ []) ("<!--\n\n-->" ∷ []))
 unfolding running
 v64 = tt
 
-v65 : T (shows (html Lf) ("  <div>\n  \0" ∷ []) (enter 35 ∷ enter 36 ∷ exit 36 0 2 ∷ enter 36 ∷ exit 36 2 7 ∷ enter 3 ∷ exit 3 7 8 ∷ enter 36 ∷ exit 36 8 11 ∷ exit 35 0 11 ∷ []) ("  <div>\n  ï¿½" ∷ []))
+v65 : T (shows (off Lf) ("  <div>\n  \0" ∷ []) (enter 35 ∷ enter 36 ∷ exit 36 0 2 ∷ enter 36 ∷ exit 36 2 7 ∷ enter 3 ∷ exit 3 7 8 ∷ enter 36 ∷ exit 36 8 11 ∷ exit 35 0 11 ∷ []) ("  &lt;div&gt;\n  ï¿½" ∷ []))
 unfolding running
 v65 = tt
 
-v66 : T (shows (on Lf) ("  <div>\n  \0" ∷ []) (enter 35 ∷ enter 36 ∷ exit 36 0 2 ∷ enter 36 ∷ exit 36 2 7 ∷ enter 3 ∷ exit 3 7 8 ∷ enter 36 ∷ exit 36 8 11 ∷ exit 35 0 11 ∷ []) ("  <div>\n  ï¿½" ∷ []))
+v66 : T (shows (html Lf) ("  <div>\n  \0" ∷ []) (enter 35 ∷ enter 36 ∷ exit 36 0 2 ∷ enter 36 ∷ exit 36 2 7 ∷ enter 3 ∷ exit 3 7 8 ∷ enter 36 ∷ exit 36 8 11 ∷ exit 35 0 11 ∷ []) ("  <div>\n  ï¿½" ∷ []))
 unfolding running
 v66 = tt
 
-v67 : T (shows (off Lf) ("<div>&amp;\n*a*\n</div>\n\n&" ∷ []) (enter 35 ∷ enter 36 ∷ exit 36 0 10 ∷ enter 3 ∷ exit 3 10 11 ∷ enter 36 ∷ exit 36 11 14 ∷ enter 3 ∷ exit 3 14 15 ∷ enter 36 ∷ exit 36 15 21 ∷ exit 35 0 21 ∷ enter 3 ∷ exit 3 21 22 ∷ enter 4 ∷ exit 4 22 23 ∷ enter 12 ∷ enter 5 ∷ exit 5 23 24 ∷ exit 12 23 24 ∷ []) ("&lt;div&gt;&amp;amp;\n*a*\n&lt;/div&gt;\n<p>&amp;</p>" ∷ []))
+v67 : T (shows (on Lf) ("  <div>\n  \0" ∷ []) (enter 35 ∷ enter 36 ∷ exit 36 0 2 ∷ enter 36 ∷ exit 36 2 7 ∷ enter 3 ∷ exit 3 7 8 ∷ enter 36 ∷ exit 36 8 11 ∷ exit 35 0 11 ∷ []) ("  <div>\n  ï¿½" ∷ []))
 unfolding running
 v67 = tt
 
-v68 : T (shows (html Lf) ("<div>&amp;\n*a*\n</div>\n\n&" ∷ []) (enter 35 ∷ enter 36 ∷ exit 36 0 10 ∷ enter 3 ∷ exit 3 10 11 ∷ enter 36 ∷ exit 36 11 14 ∷ enter 3 ∷ exit 3 14 15 ∷ enter 36 ∷ exit 36 15 21 ∷ exit 35 0 21 ∷ enter 3 ∷ exit 3 21 22 ∷ enter 4 ∷ exit 4 22 23 ∷ enter 12 ∷ enter 5 ∷ exit 5 23 24 ∷ exit 12 23 24 ∷ []) ("<div>&amp;\n*a*\n</div>\n<p>&amp;</p>" ∷ []))
+v68 : T (shows (off Lf) ("<div>&amp;\n*a*\n</div>\n\n&" ∷ []) (enter 35 ∷ enter 36 ∷ exit 36 0 10 ∷ enter 3 ∷ exit 3 10 11 ∷ enter 36 ∷ exit 36 11 14 ∷ enter 3 ∷ exit 3 14 15 ∷ enter 36 ∷ exit 36 15 21 ∷ exit 35 0 21 ∷ enter 3 ∷ exit 3 21 22 ∷ enter 4 ∷ exit 4 22 23 ∷ enter 12 ∷ enter 5 ∷ exit 5 23 24 ∷ exit 12 23 24 ∷ []) ("&lt;div&gt;&amp;amp;\n*a*\n&lt;/div&gt;\n<p>&amp;</p>" ∷ []))
 unfolding running
 v68 = tt
 
-v69 : T (shows (on Lf) ("<div>&amp;\n*a*\n</div>\n\n&" ∷ []) (enter 35 ∷ enter 36 ∷ exit 36 0 10 ∷ enter 3 ∷ exit 3 10 11 ∷ enter 36 ∷ exit 36 11 14 ∷ enter 3 ∷ exit 3 14 15 ∷ enter 36 ∷ exit 36 15 21 ∷ exit 35 0 21 ∷ enter 3 ∷ exit 3 21 22 ∷ enter 4 ∷ exit 4 22 23 ∷ enter 12 ∷ enter 5 ∷ exit 5 23 24 ∷ exit 12 23 24 ∷ []) ("<div>&amp;\n*a*\n</div>\n<p>&amp;</p>" ∷ []))
+v69 : T (shows (html Lf) ("<div>&amp;\n*a*\n</div>\n\n&" ∷ []) (enter 35 ∷ enter 36 ∷ exit 36 0 10 ∷ enter 3 ∷ exit 3 10 11 ∷ enter 36 ∷ exit 36 11 14 ∷ enter 3 ∷ exit 3 14 15 ∷ enter 36 ∷ exit 36 15 21 ∷ exit 35 0 21 ∷ enter 3 ∷ exit 3 21 22 ∷ enter 4 ∷ exit 4 22 23 ∷ enter 12 ∷ enter 5 ∷ exit 5 23 24 ∷ exit 12 23 24 ∷ []) ("<div>&amp;\n*a*\n</div>\n<p>&amp;</p>" ∷ []))
 unfolding running
 v69 = tt
 
-v70 : T (shows (off Lf) ("a <b>&</b> &" ∷ []) (enter 12 ∷ enter 5 ∷ exit 5 0 2 ∷ enter 37 ∷ enter 38 ∷ exit 38 2 5 ∷ exit 37 2 5 ∷ enter 5 ∷ exit 5 5 6 ∷ enter 37 ∷ enter 38 ∷ exit 38 6 10 ∷ exit 37 6 10 ∷ enter 5 ∷ exit 5 10 12 ∷ exit 12 0 12 ∷ []) ("<p>a &lt;b&gt;&amp;&lt;/b&gt; &amp;</p>" ∷ []))
+v70 : T (shows (on Lf) ("<div>&amp;\n*a*\n</div>\n\n&" ∷ []) (enter 35 ∷ enter 36 ∷ exit 36 0 10 ∷ enter 3 ∷ exit 3 10 11 ∷ enter 36 ∷ exit 36 11 14 ∷ enter 3 ∷ exit 3 14 15 ∷ enter 36 ∷ exit 36 15 21 ∷ exit 35 0 21 ∷ enter 3 ∷ exit 3 21 22 ∷ enter 4 ∷ exit 4 22 23 ∷ enter 12 ∷ enter 5 ∷ exit 5 23 24 ∷ exit 12 23 24 ∷ []) ("<div>&amp;\n*a*\n</div>\n<p>&amp;</p>" ∷ []))
 unfolding running
 v70 = tt
 
-v71 : T (shows (html Lf) ("a <b>&</b> &" ∷ []) (enter 12 ∷ enter 5 ∷ exit 5 0 2 ∷ enter 37 ∷ enter 38 ∷ exit 38 2 5 ∷ exit 37 2 5 ∷ enter 5 ∷ exit 5 5 6 ∷ enter 37 ∷ enter 38 ∷ exit 38 6 10 ∷ exit 37 6 10 ∷ enter 5 ∷ exit 5 10 12 ∷ exit 12 0 12 ∷ []) ("<p>a <b>&amp;</b> &amp;</p>" ∷ []))
+v71 : T (shows (off Lf) ("a <b>&</b> &" ∷ []) (enter 12 ∷ enter 5 ∷ exit 5 0 2 ∷ enter 37 ∷ enter 38 ∷ exit 38 2 5 ∷ exit 37 2 5 ∷ enter 5 ∷ exit 5 5 6 ∷ enter 37 ∷ enter 38 ∷ exit 38 6 10 ∷ exit 37 6 10 ∷ enter 5 ∷ exit 5 10 12 ∷ exit 12 0 12 ∷ []) ("<p>a &lt;b&gt;&amp;&lt;/b&gt; &amp;</p>" ∷ []))
 unfolding running
 v71 = tt
 
-v72 : T (shows (on Lf) ("a <b>&</b> &" ∷ []) (enter 12 ∷ enter 5 ∷ exit 5 0 2 ∷ enter 37 ∷ enter 38 ∷ exit 38 2 5 ∷ exit 37 2 5 ∷ enter 5 ∷ exit 5 5 6 ∷ enter 37 ∷ enter 38 ∷ exit 38 6 10 ∷ exit 37 6 10 ∷ enter 5 ∷ exit 5 10 12 ∷ exit 12 0 12 ∷ []) ("<p>a <b>&amp;</b> &amp;</p>" ∷ []))
+v72 : T (shows (html Lf) ("a <b>&</b> &" ∷ []) (enter 12 ∷ enter 5 ∷ exit 5 0 2 ∷ enter 37 ∷ enter 38 ∷ exit 38 2 5 ∷ exit 37 2 5 ∷ enter 5 ∷ exit 5 5 6 ∷ enter 37 ∷ enter 38 ∷ exit 38 6 10 ∷ exit 37 6 10 ∷ enter 5 ∷ exit 5 10 12 ∷ exit 12 0 12 ∷ []) ("<p>a <b>&amp;</b> &amp;</p>" ∷ []))
 unfolding running
 v72 = tt
 
-v73 : T (shows (off Lf) ("<!-- & -->\n\n<b>&" ∷ []) (enter 35 ∷ enter 36 ∷ exit 36 0 10 ∷ exit 35 0 10 ∷ enter 3 ∷ exit 3 10 11 ∷ enter 4 ∷ exit 4 11 12 ∷ enter 12 ∷ enter 37 ∷ enter 38 ∷ exit 38 12 15 ∷ exit 37 12 15 ∷ enter 5 ∷ exit 5 15 16 ∷ exit 12 12 16 ∷ []) ("&lt;!-- &amp; --&gt;\n<p>&lt;b&gt;&amp;</p>" ∷ []))
+v73 : T (shows (on Lf) ("a <b>&</b> &" ∷ []) (enter 12 ∷ enter 5 ∷ exit 5 0 2 ∷ enter 37 ∷ enter 38 ∷ exit 38 2 5 ∷ exit 37 2 5 ∷ enter 5 ∷ exit 5 5 6 ∷ enter 37 ∷ enter 38 ∷ exit 38 6 10 ∷ exit 37 6 10 ∷ enter 5 ∷ exit 5 10 12 ∷ exit 12 0 12 ∷ []) ("<p>a <b>&amp;</b> &amp;</p>" ∷ []))
 unfolding running
 v73 = tt
 
-v74 : T (shows (html Lf) ("<!-- & -->\n\n<b>&" ∷ []) (enter 35 ∷ enter 36 ∷ exit 36 0 10 ∷ exit 35 0 10 ∷ enter 3 ∷ exit 3 10 11 ∷ enter 4 ∷ exit 4 11 12 ∷ enter 12 ∷ enter 37 ∷ enter 38 ∷ exit 38 12 15 ∷ exit 37 12 15 ∷ enter 5 ∷ exit 5 15 16 ∷ exit 12 12 16 ∷ []) ("<!-- & -->\n<p><b>&amp;</p>" ∷ []))
+v74 : T (shows (off Lf) ("<!-- & -->\n\n<b>&" ∷ []) (enter 35 ∷ enter 36 ∷ exit 36 0 10 ∷ exit 35 0 10 ∷ enter 3 ∷ exit 3 10 11 ∷ enter 4 ∷ exit 4 11 12 ∷ enter 12 ∷ enter 37 ∷ enter 38 ∷ exit 38 12 15 ∷ exit 37 12 15 ∷ enter 5 ∷ exit 5 15 16 ∷ exit 12 12 16 ∷ []) ("&lt;!-- &amp; --&gt;\n<p>&lt;b&gt;&amp;</p>" ∷ []))
 unfolding running
 v74 = tt
 
-v75 : T (shows (on Lf) ("<!-- & -->\n\n<b>&" ∷ []) (enter 35 ∷ enter 36 ∷ exit 36 0 10 ∷ exit 35 0 10 ∷ enter 3 ∷ exit 3 10 11 ∷ enter 4 ∷ exit 4 11 12 ∷ enter 12 ∷ enter 37 ∷ enter 38 ∷ exit 38 12 15 ∷ exit 37 12 15 ∷ enter 5 ∷ exit 5 15 16 ∷ exit 12 12 16 ∷ []) ("<!-- & -->\n<p><b>&amp;</p>" ∷ []))
+v75 : T (shows (html Lf) ("<!-- & -->\n\n<b>&" ∷ []) (enter 35 ∷ enter 36 ∷ exit 36 0 10 ∷ exit 35 0 10 ∷ enter 3 ∷ exit 3 10 11 ∷ enter 4 ∷ exit 4 11 12 ∷ enter 12 ∷ enter 37 ∷ enter 38 ∷ exit 38 12 15 ∷ exit 37 12 15 ∷ enter 5 ∷ exit 5 15 16 ∷ exit 12 12 16 ∷ []) ("<!-- & -->\n<p><b>&amp;</p>" ∷ []))
 unfolding running
 v75 = tt
+
+v76 : T (shows (on Lf) ("<!-- & -->\n\n<b>&" ∷ []) (enter 35 ∷ enter 36 ∷ exit 36 0 10 ∷ exit 35 0 10 ∷ enter 3 ∷ exit 3 10 11 ∷ enter 4 ∷ exit 4 11 12 ∷ enter 12 ∷ enter 37 ∷ enter 38 ∷ exit 38 12 15 ∷ exit 37 12 15 ∷ enter 5 ∷ exit 5 15 16 ∷ exit 12 12 16 ∷ []) ("<!-- & -->\n<p><b>&amp;</p>" ∷ []))
+unfolding running
+v76 = tt

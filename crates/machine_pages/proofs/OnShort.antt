@@ -3,7 +3,7 @@ use mathlib.Core.List.{[], _∷_}
 use lib.Dec.{T}
 use Rattle.machine.specs.declared.Ending.the-variants.{Lf, Cr, CrLf}
 use Rattle.machine.proofs.Running.{running}
-use Rattle.machine.proofs.Answers.{shows, stops, off, html, protocol, images, on, enter, exit, enterWith, exitWith}
+use Rattle.machine.proofs.Answers.{shows, stops, off, html, protocol, images, on, quoted, quotedOn, enter, exit, enterWith, exitWith}
 
 v1 : T (shows (off Lf) ("\r\n" ∷ []) (enter 4 ∷ exit 4 0 2 ∷ []) ([]))
 unfolding running
@@ -313,190 +313,198 @@ v77 : T (shows (off Lf) ("'" ∷ []) (enter 12 ∷ enter 5 ∷ exit 5 0 1 ∷ ex
 unfolding running
 v77 = tt
 
-v78 : T (shows (off Lf) ("\"c\"" ∷ []) (enter 12 ∷ enter 5 ∷ exit 5 0 3 ∷ exit 12 0 3 ∷ []) ("<p>&quot;c&quot;</p>" ∷ []))
+v78 : T (shows (quoted Lf) ("'" ∷ []) (enter 12 ∷ enter 5 ∷ exit 5 0 1 ∷ exit 12 0 1 ∷ []) ("<p>&#39;</p>" ∷ []))
 unfolding running
 v78 = tt
 
-v79 : T (shows (off Lf) ("<https://a.b>" ∷ []) (enter 12 ∷ enter 0 ∷ enter 0 ∷ exit 0 0 1 ∷ enter 44 ∷ exit 44 1 12 ∷ enter 0 ∷ exit 0 12 13 ∷ exit 0 0 13 ∷ exit 12 0 13 ∷ []) ("<p><a href=\"https://a.b\">https://a.b</a></p>" ∷ []))
+v79 : T (shows (quotedOn Lf) ("'" ∷ []) (enter 12 ∷ enter 5 ∷ exit 5 0 1 ∷ exit 12 0 1 ∷ []) ("<p>&#39;</p>" ∷ []))
 unfolding running
 v79 = tt
 
-v80 : T (shows (off Lf) ("Ã©" ∷ []) (enter 12 ∷ enter 5 ∷ exit 5 0 2 ∷ exit 12 0 2 ∷ []) ("<p>Ã©</p>" ∷ []))
+v80 : T (shows (off Lf) ("\"c\"" ∷ []) (enter 12 ∷ enter 5 ∷ exit 5 0 3 ∷ exit 12 0 3 ∷ []) ("<p>&quot;c&quot;</p>" ∷ []))
 unfolding running
 v80 = tt
 
-v81 : T (shows (off Lf) ("ð\u{9f}\u{98}\u{80}" ∷ []) (enter 12 ∷ enter 5 ∷ exit 5 0 4 ∷ exit 12 0 4 ∷ []) ("<p>ð\u{9f}\u{98}\u{80}</p>" ∷ []))
+v81 : T (shows (off Lf) ("<https://a.b>" ∷ []) (enter 12 ∷ enter 0 ∷ enter 0 ∷ exit 0 0 1 ∷ enter 44 ∷ exit 44 1 12 ∷ enter 0 ∷ exit 0 12 13 ∷ exit 0 0 13 ∷ exit 12 0 13 ∷ []) ("<p><a href=\"https://a.b\">https://a.b</a></p>" ∷ []))
 unfolding running
 v81 = tt
 
-v82 : T (shows (off Lf) ("b" ∷ []) (enter 12 ∷ enter 5 ∷ exit 5 0 1 ∷ exit 12 0 1 ∷ []) ("<p>b</p>" ∷ []))
+v82 : T (shows (off Lf) ("Ã©" ∷ []) (enter 12 ∷ enter 5 ∷ exit 5 0 2 ∷ exit 12 0 2 ∷ []) ("<p>Ã©</p>" ∷ []))
 unfolding running
 v82 = tt
 
-v83 : T (shows (off Lf) ("A" ∷ []) (enter 12 ∷ enter 5 ∷ exit 5 0 1 ∷ exit 12 0 1 ∷ []) ("<p>A</p>" ∷ []))
+v83 : T (shows (off Lf) ("ð\u{9f}\u{98}\u{80}" ∷ []) (enter 12 ∷ enter 5 ∷ exit 5 0 4 ∷ exit 12 0 4 ∷ []) ("<p>ð\u{9f}\u{98}\u{80}</p>" ∷ []))
 unfolding running
 v83 = tt
 
-v84 : T (shows (off Lf) ("x y" ∷ []) (enter 12 ∷ enter 5 ∷ exit 5 0 3 ∷ exit 12 0 3 ∷ []) ("<p>x y</p>" ∷ []))
+v84 : T (shows (off Lf) ("b" ∷ []) (enter 12 ∷ enter 5 ∷ exit 5 0 1 ∷ exit 12 0 1 ∷ []) ("<p>b</p>" ∷ []))
 unfolding running
 v84 = tt
 
-v85 : T (shows (off Lf) ("ï»¿" ∷ []) (enter 0 ∷ exit 0 0 3 ∷ []) ([]))
+v85 : T (shows (off Lf) ("A" ∷ []) (enter 12 ∷ enter 5 ∷ exit 5 0 1 ∷ exit 12 0 1 ∷ []) ("<p>A</p>" ∷ []))
 unfolding running
 v85 = tt
 
-v86 : T (shows (off Lf) ("%20" ∷ []) (enter 12 ∷ enter 5 ∷ exit 5 0 3 ∷ exit 12 0 3 ∷ []) ("<p>%20</p>" ∷ []))
+v86 : T (shows (off Lf) ("x y" ∷ []) (enter 12 ∷ enter 5 ∷ exit 5 0 3 ∷ exit 12 0 3 ∷ []) ("<p>x y</p>" ∷ []))
 unfolding running
 v86 = tt
 
-v87 : T (shows (off Lf) ("javascript:" ∷ []) (enter 12 ∷ enter 5 ∷ exit 5 0 11 ∷ exit 12 0 11 ∷ []) ("<p>javascript:</p>" ∷ []))
+v87 : T (shows (off Lf) ("ï»¿" ∷ []) (enter 0 ∷ exit 0 0 3 ∷ []) ([]))
 unfolding running
 v87 = tt
 
-v88 : T (shows (off Lf) ("http:" ∷ []) (enter 12 ∷ enter 5 ∷ exit 5 0 5 ∷ exit 12 0 5 ∷ []) ("<p>http:</p>" ∷ []))
+v88 : T (shows (off Lf) ("%20" ∷ []) (enter 12 ∷ enter 5 ∷ exit 5 0 3 ∷ exit 12 0 3 ∷ []) ("<p>%20</p>" ∷ []))
 unfolding running
 v88 = tt
 
-v89 : T (shows (off Lf) ("[A b]" ∷ []) (enter 12 ∷ enter 5 ∷ exit 5 0 5 ∷ exit 12 0 5 ∷ []) ("<p>[A b]</p>" ∷ []))
+v89 : T (shows (off Lf) ("javascript:" ∷ []) (enter 12 ∷ enter 5 ∷ exit 5 0 11 ∷ exit 12 0 11 ∷ []) ("<p>javascript:</p>" ∷ []))
 unfolding running
 v89 = tt
 
-v90 : T (shows (off Lf) ("[a b]: c" ∷ []) (enter 53 ∷ enter 0 ∷ enter 0 ∷ exit 0 0 1 ∷ enter 54 ∷ enter 5 ∷ exit 5 1 4 ∷ exit 54 1 4 ∷ enter 0 ∷ exit 0 4 5 ∷ exit 0 0 5 ∷ enter 0 ∷ exit 0 5 6 ∷ enter 1 ∷ exit 1 6 7 ∷ enter 0 ∷ enter 0 ∷ enter 55 ∷ enter 5 ∷ exit 5 7 8 ∷ exit 55 7 8 ∷ exit 0 7 8 ∷ exit 0 7 8 ∷ exit 53 0 8 ∷ []) ([]))
+v90 : T (shows (off Lf) ("http:" ∷ []) (enter 12 ∷ enter 5 ∷ exit 5 0 5 ∷ exit 12 0 5 ∷ []) ("<p>http:</p>" ∷ []))
 unfolding running
 v90 = tt
 
-v91 : T (shows (off Lf) ("\n    " ∷ []) (enter 4 ∷ exit 4 0 1 ∷ enter 1 ∷ exit 1 1 5 ∷ []) ([]))
+v91 : T (shows (off Lf) ("[A b]" ∷ []) (enter 12 ∷ enter 5 ∷ exit 5 0 5 ∷ exit 12 0 5 ∷ []) ("<p>[A b]</p>" ∷ []))
 unfolding running
 v91 = tt
 
-v92 : T (shows (off Lf) ("\n  " ∷ []) (enter 4 ∷ exit 4 0 1 ∷ enter 1 ∷ exit 1 1 3 ∷ []) ([]))
+v92 : T (shows (off Lf) ("[a b]: c" ∷ []) (enter 53 ∷ enter 0 ∷ enter 0 ∷ exit 0 0 1 ∷ enter 54 ∷ enter 5 ∷ exit 5 1 4 ∷ exit 54 1 4 ∷ enter 0 ∷ exit 0 4 5 ∷ exit 0 0 5 ∷ enter 0 ∷ exit 0 5 6 ∷ enter 1 ∷ exit 1 6 7 ∷ enter 0 ∷ enter 0 ∷ enter 55 ∷ enter 5 ∷ exit 5 7 8 ∷ exit 55 7 8 ∷ exit 0 7 8 ∷ exit 0 7 8 ∷ exit 53 0 8 ∷ []) ([]))
 unfolding running
 v92 = tt
 
-v93 : T (shows (off Lf) ("\n> " ∷ []) (enter 4 ∷ exit 4 0 1 ∷ enter 20 ∷ enter 2 ∷ enter 0 ∷ exit 0 1 2 ∷ enter 1 ∷ exit 1 2 3 ∷ exit 2 1 3 ∷ exit 20 1 3 ∷ []) ("<blockquote>\n</blockquote>" ∷ []))
+v93 : T (shows (off Lf) ("\n    " ∷ []) (enter 4 ∷ exit 4 0 1 ∷ enter 1 ∷ exit 1 1 5 ∷ []) ([]))
 unfolding running
 v93 = tt
 
-v94 : T (shows (off Lf) ("\n- " ∷ []) (enter 4 ∷ exit 4 0 1 ∷ enter 22 ∷ enter 23 ∷ enter 24 ∷ enter 25 ∷ exit 25 1 2 ∷ exit 24 1 2 ∷ enter 1 ∷ exit 1 2 3 ∷ exit 23 1 3 ∷ exit 22 1 3 ∷ []) ("<ul>\n<li></li>\n</ul>" ∷ []))
+v94 : T (shows (off Lf) ("\n  " ∷ []) (enter 4 ∷ exit 4 0 1 ∷ enter 1 ∷ exit 1 1 3 ∷ []) ([]))
 unfolding running
 v94 = tt
 
-v95 : T (shows (off Lf) ("\n\n    " ∷ []) (enter 4 ∷ exit 4 0 1 ∷ enter 4 ∷ exit 4 1 2 ∷ enter 1 ∷ exit 1 2 6 ∷ []) ([]))
+v95 : T (shows (off Lf) ("\n> " ∷ []) (enter 4 ∷ exit 4 0 1 ∷ enter 20 ∷ enter 2 ∷ enter 0 ∷ exit 0 1 2 ∷ enter 1 ∷ exit 1 2 3 ∷ exit 2 1 3 ∷ exit 20 1 3 ∷ []) ("<blockquote>\n</blockquote>" ∷ []))
 unfolding running
 v95 = tt
 
-v96 : T (shows (off Lf) ("\n\n  " ∷ []) (enter 4 ∷ exit 4 0 1 ∷ enter 4 ∷ exit 4 1 2 ∷ enter 1 ∷ exit 1 2 4 ∷ []) ([]))
+v96 : T (shows (off Lf) ("\n- " ∷ []) (enter 4 ∷ exit 4 0 1 ∷ enter 22 ∷ enter 23 ∷ enter 24 ∷ enter 25 ∷ exit 25 1 2 ∷ exit 24 1 2 ∷ enter 1 ∷ exit 1 2 3 ∷ exit 23 1 3 ∷ exit 22 1 3 ∷ []) ("<ul>\n<li></li>\n</ul>" ∷ []))
 unfolding running
 v96 = tt
 
-v97 : T (shows (off Lf) ("\n\t" ∷ []) (enter 4 ∷ exit 4 0 1 ∷ enter 1 ∷ exit 1 1 2 ∷ []) ([]))
+v97 : T (shows (off Lf) ("\n\n    " ∷ []) (enter 4 ∷ exit 4 0 1 ∷ enter 4 ∷ exit 4 1 2 ∷ enter 1 ∷ exit 1 2 6 ∷ []) ([]))
 unfolding running
 v97 = tt
 
-v98 : T (shows (off Lf) ("0. " ∷ []) (enter 21 ∷ enter 23 ∷ enter 24 ∷ enter 26 ∷ exit 26 0 1 ∷ enter 25 ∷ exit 25 1 2 ∷ exit 24 0 2 ∷ enter 1 ∷ exit 1 2 3 ∷ exit 23 0 3 ∷ exit 21 0 3 ∷ []) ("<ol start=\"0\">\n<li></li>\n</ol>" ∷ []))
+v98 : T (shows (off Lf) ("\n\n  " ∷ []) (enter 4 ∷ exit 4 0 1 ∷ enter 4 ∷ exit 4 1 2 ∷ enter 1 ∷ exit 1 2 4 ∷ []) ([]))
 unfolding running
 v98 = tt
 
-v99 : T (shows (off Cr) ("0. " ∷ []) (enter 21 ∷ enter 23 ∷ enter 24 ∷ enter 26 ∷ exit 26 0 1 ∷ enter 25 ∷ exit 25 1 2 ∷ exit 24 0 2 ∷ enter 1 ∷ exit 1 2 3 ∷ exit 23 0 3 ∷ exit 21 0 3 ∷ []) ("<ol start=\"0\">\r<li></li>\r</ol>" ∷ []))
+v99 : T (shows (off Lf) ("\n\t" ∷ []) (enter 4 ∷ exit 4 0 1 ∷ enter 1 ∷ exit 1 1 2 ∷ []) ([]))
 unfolding running
 v99 = tt
 
-v100 : T (shows (off CrLf) ("0. " ∷ []) (enter 21 ∷ enter 23 ∷ enter 24 ∷ enter 26 ∷ exit 26 0 1 ∷ enter 25 ∷ exit 25 1 2 ∷ exit 24 0 2 ∷ enter 1 ∷ exit 1 2 3 ∷ exit 23 0 3 ∷ exit 21 0 3 ∷ []) ("<ol start=\"0\">\r\n<li></li>\r\n</ol>" ∷ []))
+v100 : T (shows (off Lf) ("0. " ∷ []) (enter 21 ∷ enter 23 ∷ enter 24 ∷ enter 26 ∷ exit 26 0 1 ∷ enter 25 ∷ exit 25 1 2 ∷ exit 24 0 2 ∷ enter 1 ∷ exit 1 2 3 ∷ exit 23 0 3 ∷ exit 21 0 3 ∷ []) ("<ol start=\"0\">\n<li></li>\n</ol>" ∷ []))
 unfolding running
 v100 = tt
 
-v101 : T (shows (off Lf) ("+ " ∷ []) (enter 22 ∷ enter 23 ∷ enter 24 ∷ enter 25 ∷ exit 25 0 1 ∷ exit 24 0 1 ∷ enter 1 ∷ exit 1 1 2 ∷ exit 23 0 2 ∷ exit 22 0 2 ∷ []) ("<ul>\n<li></li>\n</ul>" ∷ []))
+v101 : T (shows (off Cr) ("0. " ∷ []) (enter 21 ∷ enter 23 ∷ enter 24 ∷ enter 26 ∷ exit 26 0 1 ∷ enter 25 ∷ exit 25 1 2 ∷ exit 24 0 2 ∷ enter 1 ∷ exit 1 2 3 ∷ exit 23 0 3 ∷ exit 21 0 3 ∷ []) ("<ol start=\"0\">\r<li></li>\r</ol>" ∷ []))
 unfolding running
 v101 = tt
 
-v102 : T (shows (off Cr) ("+ " ∷ []) (enter 22 ∷ enter 23 ∷ enter 24 ∷ enter 25 ∷ exit 25 0 1 ∷ exit 24 0 1 ∷ enter 1 ∷ exit 1 1 2 ∷ exit 23 0 2 ∷ exit 22 0 2 ∷ []) ("<ul>\r<li></li>\r</ul>" ∷ []))
+v102 : T (shows (off CrLf) ("0. " ∷ []) (enter 21 ∷ enter 23 ∷ enter 24 ∷ enter 26 ∷ exit 26 0 1 ∷ enter 25 ∷ exit 25 1 2 ∷ exit 24 0 2 ∷ enter 1 ∷ exit 1 2 3 ∷ exit 23 0 3 ∷ exit 21 0 3 ∷ []) ("<ol start=\"0\">\r\n<li></li>\r\n</ol>" ∷ []))
 unfolding running
 v102 = tt
 
-v103 : T (shows (off CrLf) ("+ " ∷ []) (enter 22 ∷ enter 23 ∷ enter 24 ∷ enter 25 ∷ exit 25 0 1 ∷ exit 24 0 1 ∷ enter 1 ∷ exit 1 1 2 ∷ exit 23 0 2 ∷ exit 22 0 2 ∷ []) ("<ul>\r\n<li></li>\r\n</ul>" ∷ []))
+v103 : T (shows (off Lf) ("+ " ∷ []) (enter 22 ∷ enter 23 ∷ enter 24 ∷ enter 25 ∷ exit 25 0 1 ∷ exit 24 0 1 ∷ enter 1 ∷ exit 1 1 2 ∷ exit 23 0 2 ∷ exit 22 0 2 ∷ []) ("<ul>\n<li></li>\n</ul>" ∷ []))
 unfolding running
 v103 = tt
 
-v104 : T (shows (off Lf) ("Ã\u{9f}" ∷ []) (enter 12 ∷ enter 5 ∷ exit 5 0 2 ∷ exit 12 0 2 ∷ []) ("<p>Ã\u{9f}</p>" ∷ []))
+v104 : T (shows (off Cr) ("+ " ∷ []) (enter 22 ∷ enter 23 ∷ enter 24 ∷ enter 25 ∷ exit 25 0 1 ∷ exit 24 0 1 ∷ enter 1 ∷ exit 1 1 2 ∷ exit 23 0 2 ∷ exit 22 0 2 ∷ []) ("<ul>\r<li></li>\r</ul>" ∷ []))
 unfolding running
 v104 = tt
 
-v105 : T (shows (off Lf) ("[a]: <b> 'c'\n" ∷ []) (enter 53 ∷ enter 0 ∷ enter 0 ∷ exit 0 0 1 ∷ enter 54 ∷ enter 5 ∷ exit 5 1 2 ∷ exit 54 1 2 ∷ enter 0 ∷ exit 0 2 3 ∷ exit 0 0 3 ∷ enter 0 ∷ exit 0 3 4 ∷ enter 1 ∷ exit 1 4 5 ∷ enter 0 ∷ enter 0 ∷ enter 0 ∷ exit 0 5 6 ∷ enter 55 ∷ enter 5 ∷ exit 5 6 7 ∷ exit 55 6 7 ∷ enter 0 ∷ exit 0 7 8 ∷ exit 0 5 8 ∷ exit 0 5 8 ∷ enter 1 ∷ exit 1 8 9 ∷ enter 0 ∷ enter 0 ∷ exit 0 9 10 ∷ enter 56 ∷ enter 5 ∷ exit 5 10 11 ∷ exit 56 10 11 ∷ enter 0 ∷ exit 0 11 12 ∷ exit 0 9 12 ∷ exit 53 0 12 ∷ enter 3 ∷ exit 3 12 13 ∷ []) ([]))
+v105 : T (shows (off CrLf) ("+ " ∷ []) (enter 22 ∷ enter 23 ∷ enter 24 ∷ enter 25 ∷ exit 25 0 1 ∷ exit 24 0 1 ∷ enter 1 ∷ exit 1 1 2 ∷ exit 23 0 2 ∷ exit 22 0 2 ∷ []) ("<ul>\r\n<li></li>\r\n</ul>" ∷ []))
 unfolding running
 v105 = tt
 
-v106 : T (shows (off Lf) ("\n[^b]: d\n" ∷ []) (enter 4 ∷ exit 4 0 1 ∷ enter 63 ∷ enter 64 ∷ enter 0 ∷ enter 0 ∷ exit 0 1 2 ∷ enter 0 ∷ exit 0 2 3 ∷ enter 65 ∷ enter 5 ∷ exit 5 3 4 ∷ exit 65 3 4 ∷ enter 0 ∷ exit 0 4 5 ∷ exit 0 1 5 ∷ enter 0 ∷ exit 0 5 6 ∷ enter 1 ∷ exit 1 6 7 ∷ exit 64 1 7 ∷ enter 12 ∷ enter 5 ∷ exit 5 7 8 ∷ exit 12 7 8 ∷ exit 63 1 8 ∷ enter 3 ∷ exit 3 8 9 ∷ []) ([]))
+v106 : T (shows (off Lf) ("Ã\u{9f}" ∷ []) (enter 12 ∷ enter 5 ∷ exit 5 0 2 ∷ exit 12 0 2 ∷ []) ("<p>Ã\u{9f}</p>" ∷ []))
 unfolding running
 v106 = tt
 
-v107 : T (shows (off Lf) ("[^b]" ∷ []) (enter 12 ∷ enter 5 ∷ exit 5 0 4 ∷ exit 12 0 4 ∷ []) ("<p>[^b]</p>" ∷ []))
+v107 : T (shows (off Lf) ("[a]: <b> 'c'\n" ∷ []) (enter 53 ∷ enter 0 ∷ enter 0 ∷ exit 0 0 1 ∷ enter 54 ∷ enter 5 ∷ exit 5 1 2 ∷ exit 54 1 2 ∷ enter 0 ∷ exit 0 2 3 ∷ exit 0 0 3 ∷ enter 0 ∷ exit 0 3 4 ∷ enter 1 ∷ exit 1 4 5 ∷ enter 0 ∷ enter 0 ∷ enter 0 ∷ exit 0 5 6 ∷ enter 55 ∷ enter 5 ∷ exit 5 6 7 ∷ exit 55 6 7 ∷ enter 0 ∷ exit 0 7 8 ∷ exit 0 5 8 ∷ exit 0 5 8 ∷ enter 1 ∷ exit 1 8 9 ∷ enter 0 ∷ enter 0 ∷ exit 0 9 10 ∷ enter 56 ∷ enter 5 ∷ exit 5 10 11 ∷ exit 56 10 11 ∷ enter 0 ∷ exit 0 11 12 ∷ exit 0 9 12 ∷ exit 53 0 12 ∷ enter 3 ∷ exit 3 12 13 ∷ []) ([]))
 unfolding running
 v107 = tt
 
-v108 : T (shows (off Lf) ("   " ∷ []) (enter 1 ∷ exit 1 0 3 ∷ []) ([]))
+v108 : T (shows (off Lf) ("\n[^b]: d\n" ∷ []) (enter 4 ∷ exit 4 0 1 ∷ enter 63 ∷ enter 64 ∷ enter 0 ∷ enter 0 ∷ exit 0 1 2 ∷ enter 0 ∷ exit 0 2 3 ∷ enter 65 ∷ enter 5 ∷ exit 5 3 4 ∷ exit 65 3 4 ∷ enter 0 ∷ exit 0 4 5 ∷ exit 0 1 5 ∷ enter 0 ∷ exit 0 5 6 ∷ enter 1 ∷ exit 1 6 7 ∷ exit 64 1 7 ∷ enter 12 ∷ enter 5 ∷ exit 5 7 8 ∷ exit 12 7 8 ∷ exit 63 1 8 ∷ enter 3 ∷ exit 3 8 9 ∷ []) ([]))
 unfolding running
 v108 = tt
 
-v109 : T (shows (off Lf) ("> > " ∷ []) (enter 20 ∷ enter 2 ∷ enter 0 ∷ exit 0 0 1 ∷ enter 1 ∷ exit 1 1 2 ∷ exit 2 0 2 ∷ enter 20 ∷ enter 2 ∷ enter 0 ∷ exit 0 2 3 ∷ enter 1 ∷ exit 1 3 4 ∷ exit 2 2 4 ∷ exit 20 2 4 ∷ exit 20 0 4 ∷ []) ("<blockquote>\n<blockquote>\n</blockquote>\n</blockquote>" ∷ []))
+v109 : T (shows (off Lf) ("[^b]" ∷ []) (enter 12 ∷ enter 5 ∷ exit 5 0 4 ∷ exit 12 0 4 ∷ []) ("<p>[^b]</p>" ∷ []))
 unfolding running
 v109 = tt
 
-v110 : T (shows (off Cr) ("> > " ∷ []) (enter 20 ∷ enter 2 ∷ enter 0 ∷ exit 0 0 1 ∷ enter 1 ∷ exit 1 1 2 ∷ exit 2 0 2 ∷ enter 20 ∷ enter 2 ∷ enter 0 ∷ exit 0 2 3 ∷ enter 1 ∷ exit 1 3 4 ∷ exit 2 2 4 ∷ exit 20 2 4 ∷ exit 20 0 4 ∷ []) ("<blockquote>\r<blockquote>\r</blockquote>\r</blockquote>" ∷ []))
+v110 : T (shows (off Lf) ("   " ∷ []) (enter 1 ∷ exit 1 0 3 ∷ []) ([]))
 unfolding running
 v110 = tt
 
-v111 : T (shows (off CrLf) ("> > " ∷ []) (enter 20 ∷ enter 2 ∷ enter 0 ∷ exit 0 0 1 ∷ enter 1 ∷ exit 1 1 2 ∷ exit 2 0 2 ∷ enter 20 ∷ enter 2 ∷ enter 0 ∷ exit 0 2 3 ∷ enter 1 ∷ exit 1 3 4 ∷ exit 2 2 4 ∷ exit 20 2 4 ∷ exit 20 0 4 ∷ []) ("<blockquote>\r\n<blockquote>\r\n</blockquote>\r\n</blockquote>" ∷ []))
+v111 : T (shows (off Lf) ("> > " ∷ []) (enter 20 ∷ enter 2 ∷ enter 0 ∷ exit 0 0 1 ∷ enter 1 ∷ exit 1 1 2 ∷ exit 2 0 2 ∷ enter 20 ∷ enter 2 ∷ enter 0 ∷ exit 0 2 3 ∷ enter 1 ∷ exit 1 3 4 ∷ exit 2 2 4 ∷ exit 20 2 4 ∷ exit 20 0 4 ∷ []) ("<blockquote>\n<blockquote>\n</blockquote>\n</blockquote>" ∷ []))
 unfolding running
 v111 = tt
 
-v112 : T (shows (off Lf) ("| " ∷ []) (enter 12 ∷ enter 5 ∷ exit 5 0 1 ∷ enter 1 ∷ exit 1 1 2 ∷ exit 12 0 2 ∷ []) ("<p>|</p>" ∷ []))
+v112 : T (shows (off Cr) ("> > " ∷ []) (enter 20 ∷ enter 2 ∷ enter 0 ∷ exit 0 0 1 ∷ enter 1 ∷ exit 1 1 2 ∷ exit 2 0 2 ∷ enter 20 ∷ enter 2 ∷ enter 0 ∷ exit 0 2 3 ∷ enter 1 ∷ exit 1 3 4 ∷ exit 2 2 4 ∷ exit 20 2 4 ∷ exit 20 0 4 ∷ []) ("<blockquote>\r<blockquote>\r</blockquote>\r</blockquote>" ∷ []))
 unfolding running
 v112 = tt
 
-v113 : T (shows (off Lf) ("> - " ∷ []) (enter 20 ∷ enter 2 ∷ enter 0 ∷ exit 0 0 1 ∷ enter 1 ∷ exit 1 1 2 ∷ exit 2 0 2 ∷ enter 22 ∷ enter 23 ∷ enter 24 ∷ enter 25 ∷ exit 25 2 3 ∷ exit 24 2 3 ∷ enter 1 ∷ exit 1 3 4 ∷ exit 23 2 4 ∷ exit 22 2 4 ∷ exit 20 0 4 ∷ []) ("<blockquote>\n<ul>\n<li></li>\n</ul>\n</blockquote>" ∷ []))
+v113 : T (shows (off CrLf) ("> > " ∷ []) (enter 20 ∷ enter 2 ∷ enter 0 ∷ exit 0 0 1 ∷ enter 1 ∷ exit 1 1 2 ∷ exit 2 0 2 ∷ enter 20 ∷ enter 2 ∷ enter 0 ∷ exit 0 2 3 ∷ enter 1 ∷ exit 1 3 4 ∷ exit 2 2 4 ∷ exit 20 2 4 ∷ exit 20 0 4 ∷ []) ("<blockquote>\r\n<blockquote>\r\n</blockquote>\r\n</blockquote>" ∷ []))
 unfolding running
 v113 = tt
 
-v114 : T (shows (off Cr) ("> - " ∷ []) (enter 20 ∷ enter 2 ∷ enter 0 ∷ exit 0 0 1 ∷ enter 1 ∷ exit 1 1 2 ∷ exit 2 0 2 ∷ enter 22 ∷ enter 23 ∷ enter 24 ∷ enter 25 ∷ exit 25 2 3 ∷ exit 24 2 3 ∷ enter 1 ∷ exit 1 3 4 ∷ exit 23 2 4 ∷ exit 22 2 4 ∷ exit 20 0 4 ∷ []) ("<blockquote>\r<ul>\r<li></li>\r</ul>\r</blockquote>" ∷ []))
+v114 : T (shows (off Lf) ("| " ∷ []) (enter 12 ∷ enter 5 ∷ exit 5 0 1 ∷ enter 1 ∷ exit 1 1 2 ∷ exit 12 0 2 ∷ []) ("<p>|</p>" ∷ []))
 unfolding running
 v114 = tt
 
-v115 : T (shows (off CrLf) ("> - " ∷ []) (enter 20 ∷ enter 2 ∷ enter 0 ∷ exit 0 0 1 ∷ enter 1 ∷ exit 1 1 2 ∷ exit 2 0 2 ∷ enter 22 ∷ enter 23 ∷ enter 24 ∷ enter 25 ∷ exit 25 2 3 ∷ exit 24 2 3 ∷ enter 1 ∷ exit 1 3 4 ∷ exit 23 2 4 ∷ exit 22 2 4 ∷ exit 20 0 4 ∷ []) ("<blockquote>\r\n<ul>\r\n<li></li>\r\n</ul>\r\n</blockquote>" ∷ []))
+v115 : T (shows (off Lf) ("> - " ∷ []) (enter 20 ∷ enter 2 ∷ enter 0 ∷ exit 0 0 1 ∷ enter 1 ∷ exit 1 1 2 ∷ exit 2 0 2 ∷ enter 22 ∷ enter 23 ∷ enter 24 ∷ enter 25 ∷ exit 25 2 3 ∷ exit 24 2 3 ∷ enter 1 ∷ exit 1 3 4 ∷ exit 23 2 4 ∷ exit 22 2 4 ∷ exit 20 0 4 ∷ []) ("<blockquote>\n<ul>\n<li></li>\n</ul>\n</blockquote>" ∷ []))
 unfolding running
 v115 = tt
 
-v116 : T (shows (off Lf) ("- > " ∷ []) (enter 22 ∷ enter 23 ∷ enter 24 ∷ enter 25 ∷ exit 25 0 1 ∷ enter 1 ∷ exit 1 1 2 ∷ exit 24 0 2 ∷ enter 20 ∷ enter 2 ∷ enter 0 ∷ exit 0 2 3 ∷ enter 1 ∷ exit 1 3 4 ∷ exit 2 2 4 ∷ exit 20 2 4 ∷ exit 23 0 4 ∷ exit 22 0 4 ∷ []) ("<ul>\n<li>\n<blockquote>\n</blockquote>\n</li>\n</ul>" ∷ []))
+v116 : T (shows (off Cr) ("> - " ∷ []) (enter 20 ∷ enter 2 ∷ enter 0 ∷ exit 0 0 1 ∷ enter 1 ∷ exit 1 1 2 ∷ exit 2 0 2 ∷ enter 22 ∷ enter 23 ∷ enter 24 ∷ enter 25 ∷ exit 25 2 3 ∷ exit 24 2 3 ∷ enter 1 ∷ exit 1 3 4 ∷ exit 23 2 4 ∷ exit 22 2 4 ∷ exit 20 0 4 ∷ []) ("<blockquote>\r<ul>\r<li></li>\r</ul>\r</blockquote>" ∷ []))
 unfolding running
 v116 = tt
 
-v117 : T (shows (off Cr) ("- > " ∷ []) (enter 22 ∷ enter 23 ∷ enter 24 ∷ enter 25 ∷ exit 25 0 1 ∷ enter 1 ∷ exit 1 1 2 ∷ exit 24 0 2 ∷ enter 20 ∷ enter 2 ∷ enter 0 ∷ exit 0 2 3 ∷ enter 1 ∷ exit 1 3 4 ∷ exit 2 2 4 ∷ exit 20 2 4 ∷ exit 23 0 4 ∷ exit 22 0 4 ∷ []) ("<ul>\r<li>\r<blockquote>\r</blockquote>\r</li>\r</ul>" ∷ []))
+v117 : T (shows (off CrLf) ("> - " ∷ []) (enter 20 ∷ enter 2 ∷ enter 0 ∷ exit 0 0 1 ∷ enter 1 ∷ exit 1 1 2 ∷ exit 2 0 2 ∷ enter 22 ∷ enter 23 ∷ enter 24 ∷ enter 25 ∷ exit 25 2 3 ∷ exit 24 2 3 ∷ enter 1 ∷ exit 1 3 4 ∷ exit 23 2 4 ∷ exit 22 2 4 ∷ exit 20 0 4 ∷ []) ("<blockquote>\r\n<ul>\r\n<li></li>\r\n</ul>\r\n</blockquote>" ∷ []))
 unfolding running
 v117 = tt
 
-v118 : T (shows (off CrLf) ("- > " ∷ []) (enter 22 ∷ enter 23 ∷ enter 24 ∷ enter 25 ∷ exit 25 0 1 ∷ enter 1 ∷ exit 1 1 2 ∷ exit 24 0 2 ∷ enter 20 ∷ enter 2 ∷ enter 0 ∷ exit 0 2 3 ∷ enter 1 ∷ exit 1 3 4 ∷ exit 2 2 4 ∷ exit 20 2 4 ∷ exit 23 0 4 ∷ exit 22 0 4 ∷ []) ("<ul>\r\n<li>\r\n<blockquote>\r\n</blockquote>\r\n</li>\r\n</ul>" ∷ []))
+v118 : T (shows (off Lf) ("- > " ∷ []) (enter 22 ∷ enter 23 ∷ enter 24 ∷ enter 25 ∷ exit 25 0 1 ∷ enter 1 ∷ exit 1 1 2 ∷ exit 24 0 2 ∷ enter 20 ∷ enter 2 ∷ enter 0 ∷ exit 0 2 3 ∷ enter 1 ∷ exit 1 3 4 ∷ exit 2 2 4 ∷ exit 20 2 4 ∷ exit 23 0 4 ∷ exit 22 0 4 ∷ []) ("<ul>\n<li>\n<blockquote>\n</blockquote>\n</li>\n</ul>" ∷ []))
 unfolding running
 v118 = tt
 
-v119 : T (shows (off Lf) (">\t" ∷ []) (enter 20 ∷ enter 2 ∷ enter 0 ∷ exit 0 0 1 ∷ enter 1 ∷ exit 1 1 2 ∷ exit 2 0 2 ∷ enter 1 ∷ exit 1 2 2 ∷ exit 20 0 2 ∷ []) ("<blockquote>\n</blockquote>" ∷ []))
+v119 : T (shows (off Cr) ("- > " ∷ []) (enter 22 ∷ enter 23 ∷ enter 24 ∷ enter 25 ∷ exit 25 0 1 ∷ enter 1 ∷ exit 1 1 2 ∷ exit 24 0 2 ∷ enter 20 ∷ enter 2 ∷ enter 0 ∷ exit 0 2 3 ∷ enter 1 ∷ exit 1 3 4 ∷ exit 2 2 4 ∷ exit 20 2 4 ∷ exit 23 0 4 ∷ exit 22 0 4 ∷ []) ("<ul>\r<li>\r<blockquote>\r</blockquote>\r</li>\r</ul>" ∷ []))
 unfolding running
 v119 = tt
 
-v120 : T (shows (off Cr) (">\t" ∷ []) (enter 20 ∷ enter 2 ∷ enter 0 ∷ exit 0 0 1 ∷ enter 1 ∷ exit 1 1 2 ∷ exit 2 0 2 ∷ enter 1 ∷ exit 1 2 2 ∷ exit 20 0 2 ∷ []) ("<blockquote>\r</blockquote>" ∷ []))
+v120 : T (shows (off CrLf) ("- > " ∷ []) (enter 22 ∷ enter 23 ∷ enter 24 ∷ enter 25 ∷ exit 25 0 1 ∷ enter 1 ∷ exit 1 1 2 ∷ exit 24 0 2 ∷ enter 20 ∷ enter 2 ∷ enter 0 ∷ exit 0 2 3 ∷ enter 1 ∷ exit 1 3 4 ∷ exit 2 2 4 ∷ exit 20 2 4 ∷ exit 23 0 4 ∷ exit 22 0 4 ∷ []) ("<ul>\r\n<li>\r\n<blockquote>\r\n</blockquote>\r\n</li>\r\n</ul>" ∷ []))
 unfolding running
 v120 = tt
 
-v121 : T (shows (off CrLf) (">\t" ∷ []) (enter 20 ∷ enter 2 ∷ enter 0 ∷ exit 0 0 1 ∷ enter 1 ∷ exit 1 1 2 ∷ exit 2 0 2 ∷ enter 1 ∷ exit 1 2 2 ∷ exit 20 0 2 ∷ []) ("<blockquote>\r\n</blockquote>" ∷ []))
+v121 : T (shows (off Lf) (">\t" ∷ []) (enter 20 ∷ enter 2 ∷ enter 0 ∷ exit 0 0 1 ∷ enter 1 ∷ exit 1 1 2 ∷ exit 2 0 2 ∷ enter 1 ∷ exit 1 2 2 ∷ exit 20 0 2 ∷ []) ("<blockquote>\n</blockquote>" ∷ []))
 unfolding running
 v121 = tt
 
-v122 : T (shows (off Lf) ("-\t" ∷ []) (enter 22 ∷ enter 23 ∷ enter 24 ∷ enter 25 ∷ exit 25 0 1 ∷ exit 24 0 1 ∷ enter 1 ∷ exit 1 1 2 ∷ exit 23 0 2 ∷ exit 22 0 2 ∷ []) ("<ul>\n<li></li>\n</ul>" ∷ []))
+v122 : T (shows (off Cr) (">\t" ∷ []) (enter 20 ∷ enter 2 ∷ enter 0 ∷ exit 0 0 1 ∷ enter 1 ∷ exit 1 1 2 ∷ exit 2 0 2 ∷ enter 1 ∷ exit 1 2 2 ∷ exit 20 0 2 ∷ []) ("<blockquote>\r</blockquote>" ∷ []))
 unfolding running
 v122 = tt
 
-v123 : T (shows (off Cr) ("-\t" ∷ []) (enter 22 ∷ enter 23 ∷ enter 24 ∷ enter 25 ∷ exit 25 0 1 ∷ exit 24 0 1 ∷ enter 1 ∷ exit 1 1 2 ∷ exit 23 0 2 ∷ exit 22 0 2 ∷ []) ("<ul>\r<li></li>\r</ul>" ∷ []))
+v123 : T (shows (off CrLf) (">\t" ∷ []) (enter 20 ∷ enter 2 ∷ enter 0 ∷ exit 0 0 1 ∷ enter 1 ∷ exit 1 1 2 ∷ exit 2 0 2 ∷ enter 1 ∷ exit 1 2 2 ∷ exit 20 0 2 ∷ []) ("<blockquote>\r\n</blockquote>" ∷ []))
 unfolding running
 v123 = tt
 
-v124 : T (shows (off CrLf) ("-\t" ∷ []) (enter 22 ∷ enter 23 ∷ enter 24 ∷ enter 25 ∷ exit 25 0 1 ∷ exit 24 0 1 ∷ enter 1 ∷ exit 1 1 2 ∷ exit 23 0 2 ∷ exit 22 0 2 ∷ []) ("<ul>\r\n<li></li>\r\n</ul>" ∷ []))
+v124 : T (shows (off Lf) ("-\t" ∷ []) (enter 22 ∷ enter 23 ∷ enter 24 ∷ enter 25 ∷ exit 25 0 1 ∷ exit 24 0 1 ∷ enter 1 ∷ exit 1 1 2 ∷ exit 23 0 2 ∷ exit 22 0 2 ∷ []) ("<ul>\n<li></li>\n</ul>" ∷ []))
 unfolding running
 v124 = tt
+
+v125 : T (shows (off Cr) ("-\t" ∷ []) (enter 22 ∷ enter 23 ∷ enter 24 ∷ enter 25 ∷ exit 25 0 1 ∷ exit 24 0 1 ∷ enter 1 ∷ exit 1 1 2 ∷ exit 23 0 2 ∷ exit 22 0 2 ∷ []) ("<ul>\r<li></li>\r</ul>" ∷ []))
+unfolding running
+v125 = tt
+
+v126 : T (shows (off CrLf) ("-\t" ∷ []) (enter 22 ∷ enter 23 ∷ enter 24 ∷ enter 25 ∷ exit 25 0 1 ∷ exit 24 0 1 ∷ enter 1 ∷ exit 1 1 2 ∷ exit 23 0 2 ∷ exit 22 0 2 ∷ []) ("<ul>\r\n<li></li>\r\n</ul>" ∷ []))
+unfolding running
+v126 = tt

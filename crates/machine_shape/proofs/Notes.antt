@@ -91,7 +91,7 @@ module _ (t : Turn) (s : State) where
           let index = callIndex label (s .kept .calls) in
           let us = countAt index label (s .kept .calls) in
           let u = s ▹ setMedia ms ▹ setCalls us in
-          if u .flags .alt then u else push (callText (addressOf label) (suc index) (timesAt index us)) u
+          if u .flags .alt then u else push (callText (addressOf (s .fixed .apostrophes) label) (suc index) (timesAt index us)) u
 
       gone : (m : Media) (ms : List Media) → s .media ≡ m ∷ ms → (label : List ℕ) → Rel popped s (calls ms label)
       gone m ms e label = let g = media-gone s m ms e in record { captures = g .captures; tight = g .tight; labels = g .labels; stack = g .stack; defined = g .defined; waits = g .waits; media = g .media }
@@ -100,9 +100,9 @@ module _ (t : Turn) (s : State) where
       few ms label z f = record { definitions = f .definitions; footnotes = f .footnotes; calls = z .calls; times = z .times }
 
       counted : (m : Media) (ms : List Media) → s .media ≡ m ∷ ms → (label : List ℕ) → Counted label (s .kept .calls) → (x : Bool)
-          → Done (go (if x then calls ms label else push (callText (addressOf label) (suc (callIndex label (s .kept .calls))) (timesAt (callIndex label (s .kept .calls)) (countAt (callIndex label (s .kept .calls)) label (s .kept .calls)))) (calls ms label))) true popped s
+          → Done (go (if x then calls ms label else push (callText (addressOf (s .fixed .apostrophes) label) (suc (callIndex label (s .kept .calls))) (timesAt (callIndex label (s .kept .calls)) (countAt (callIndex label (s .kept .calls)) label (s .kept .calls)))) (calls ms label))) true popped s
       counted m ms e label z true = record { state = calls ms label; goes = refl; order = refl; rel = gone m ms e label; few = few ms label z }
       counted m ms e label z false =
-          let b = callText (addressOf label) (suc (callIndex label (s .kept .calls))) (timesAt (callIndex label (s .kept .calls)) (countAt (callIndex label (s .kept .calls)) label (s .kept .calls))) in
+          let b = callText (addressOf (s .fixed .apostrophes) label) (suc (callIndex label (s .kept .calls))) (timesAt (callIndex label (s .kept .calls)) (countAt (callIndex label (s .kept .calls)) label (s .kept .calls))) in
           let p = pushed b (calls ms label) in
           record { state = push b (calls ms label); goes = refl; order = refl; rel = rel-after popped s (calls ms label) (push b (calls ms label)) (gone m ms e label) (p .rel); few = λ f. rw (p .kept) (few ms label z f) }

@@ -9,6 +9,8 @@ use lib.ListN.{length, drop, getD, drop-of-length-le}
 use lib.Seq.{drop-drop}
 use Rattle.lent.specs.Bytes.{each}
 use Rattle.lent.proofs.Laws.{next, each-append}
+use Rattle.encode_byte.specs.declared.Escaping.{Escaping}
+use Rattle.encode_byte.specs.declared.Escaping.the-variants.{Off}
 use Rattle.encode_byte.specs.Byte.{encodeByte}
 use Rattle.encode_byte.proofs.Laws.{off}
 use Rattle.encode.specs.Encode.{encodeOf}
@@ -20,7 +22,7 @@ use Rattle.normalize_uri.specs.Private.{partOf}
 
 -- ---- the walk
 
-module _ (on : Bool) (l : List ℕ) (i to : ℕ) where
+module _ (on : Escaping) (l : List ℕ) (i to : ℕ) where
   pub part-more : i < to → to ≤ length l → encodeOf on (partOf (to - i) (drop i l)) ≡ encodeOf on (byteOf (drop i l)) ++ encodeOf on (partOf (to - (i + 1)) (drop (i + 1) l))
   unfolding partOf encodeOf
   part-more h k =
@@ -39,7 +41,7 @@ part-rest zero l = refl
 part-rest (suc n) [] = refl
 part-rest (suc n) (b ∷ l) = ap (λ (x : List ℕ). urlByte (stays (b ∷ l)) b ++ x) (part-rest n l) ∙ sym (append-assoc (urlByte (stays (b ∷ l)) b) (partOf n l) (normalizeOf (drop n l)))
 
-module _ (on : Bool) (l : List ℕ) (i : ℕ) where
+module _ (on : Escaping) (l : List ℕ) (i : ℕ) where
   pub block-more : (n : ℕ) → encodeOf on (normalizeOf (drop i l)) ≡ encodeOf on (partOf n (drop i l)) ++ encodeOf on (normalizeOf (drop (i + n) l))
   unfolding encodeOf
   block-more n =
@@ -53,7 +55,7 @@ module _ (on : Bool) (l : List ℕ) (i : ℕ) where
       let h : length l ≤ i + (length l - i) = omega arith in
       ap (encodeOf on) (part-rest (length l - i) (drop i l) ∙ rw (drop-drop, drop-of-length-le l h) (append-nil (partOf (length l - i) (drop i l))))
 
-pub part-cons : (on : Bool) (k b : ℕ) (l : List ℕ) → encodeOf on (partOf (suc k) (b ∷ l)) ≡ encodeOf on (byteOf (b ∷ l)) ++ encodeOf on (partOf k l)
+pub part-cons : (on : Escaping) (k b : ℕ) (l : List ℕ) → encodeOf on (partOf (suc k) (b ∷ l)) ≡ encodeOf on (byteOf (b ∷ l)) ++ encodeOf on (partOf k l)
 unfolding partOf encodeOf
 part-cons on k b l = each-append (encodeByte on) (byteOf (b ∷ l)) (partOf k l)
 
@@ -73,13 +75,13 @@ part-cut (suc k) (suc n) (b ∷ l) h =
     let m : k ≤ n = omega arith in
     rw e (ap (λ (x : List ℕ). byteOf (b ∷ l) ++ x) (part-cut k n l m) ∙ sym (append-assoc (byteOf (b ∷ l)) (partOf k l) (partOf (n - k) (drop k l))))
 
-pub part-two : (on : Bool) (k n : ℕ) (l : List ℕ) → k ≤ n → encodeOf on (partOf n l) ≡ encodeOf on (partOf k l) ++ encodeOf on (partOf (n - k) (drop k l))
+pub part-two : (on : Escaping) (k n : ℕ) (l : List ℕ) → k ≤ n → encodeOf on (partOf n l) ≡ encodeOf on (partOf k l) ++ encodeOf on (partOf (n - k) (drop k l))
 unfolding encodeOf
 part-two on k n l h = ap (each (encodeByte on)) (part-cut k n l h) ∙ each-append (encodeByte on) (partOf k l) (partOf (n - k) (drop k l))
 
 -- ---- encoding off leaves a percent-encoded URL as it is: it holds no NUL
 
-hex-off : (n : ℕ) → encodeByte false (hexUpper n) ≡ hexUpper n ∷ []
+hex-off : (n : ℕ) → encodeByte Off (hexUpper n) ≡ hexUpper n ∷ []
 hex-off n =
     elim (decLt n 10) [
       | yes k ↦ rw (← hex-low n k) (off (48 + n) (omega arith))
@@ -92,13 +94,13 @@ no-nul : (b : ℕ) (bs : List ℕ) → stays (b ∷ bs) ≡ true → b ≡ 0 →
 unfolding stays
 no-nul b bs p q = let z : false ≡ true = rw q at p in let y : _≡_ {A = ℕ} 0 1 = cc in omega arith
 
-byte-off : (b : ℕ) (bs : List ℕ) (x : Bool) → stays (b ∷ bs) ≡ x → encodeOf false (urlByte x b) ≡ urlByte x b
+byte-off : (b : ℕ) (bs : List ℕ) (x : Bool) → stays (b ∷ bs) ≡ x → encodeOf Off (urlByte x b) ≡ urlByte x b
 unfolding encodeOf urlByte percent
 byte-off b bs true p = rw (off b (no-nul b bs p))
 byte-off b bs false p = rw (hex-off (b / 16), hex-off (b % 16), off 37 (omega arith))
 
-pub normalized : (l : List ℕ) → normalizeOf l ≡ encodeOf false (normalizeOf l)
+pub normalized : (l : List ℕ) → normalizeOf l ≡ encodeOf Off (normalizeOf l)
 unfolding normalizeOf encodeOf
 normalized [] = refl
 normalized (b ∷ l) =
-    sym (each-append (encodeByte false) (urlByte (stays (b ∷ l)) b) (normalizeOf l) ∙ rw (byte-off b l (stays (b ∷ l)) refl, ← normalized l))
+    sym (each-append (encodeByte Off) (urlByte (stays (b ∷ l)) b) (normalizeOf l) ∙ rw (byte-off b l (stays (b ∷ l)) refl, ← normalized l))

@@ -14,6 +14,7 @@ use Rattle.lent.specs.Fill.{Filled, zeros}
 use Rattle.lent.specs.Private.{Ahead}
 use Rattle.lent.proofs.Laws.{next, same, both, and-left, and-right, or-left, or-right}
 use Rattle.lent.proofs.Ahead.{ahead-end, ahead-more}
+use Rattle.encode_byte.specs.declared.Escaping.{Escaping}
 use Rattle.encode.specs.Encode.{encodeOf}
 use Rattle.url_byte.specs.Byte.{urlByte}
 use Rattle.url_byte.specs.Private.{byteOf, isApart, markOf}
@@ -27,7 +28,7 @@ use Rattle.normalize_uri.proofs.Long.{part-long}
 
 -- ---- bytes without a mark stay as they are
 
-moved-part : (on : Bool) (k : ℕ) (l : List ℕ) → marksOf k l ≡ zeros k → encodeOf on (partOf k l) ≡ take k l
+moved-part : (on : Escaping) (k : ℕ) (l : List ℕ) → marksOf k l ≡ zeros k → encodeOf on (partOf k l) ≡ take k l
 unfolding marksOf partOf encodeOf
 moved-part on zero l p = refl
 moved-part on (suc k) [] p = refl
@@ -37,7 +38,7 @@ moved-part on (suc k) (b ∷ l) p =
     part-cons on k b l ∙ rw (moved-byte on b l m, moved-part on k l t)
 
 -- a window
-still-part : (on : Bool) (n : ℕ) (l : List ℕ) → any isApart (take n l) ≡ false → encodeOf on (partOf n l) ≡ take n l
+still-part : (on : Escaping) (n : ℕ) (l : List ℕ) → any isApart (take n l) ≡ false → encodeOf on (partOf n l) ≡ take n l
 unfolding partOf encodeOf
 still-part on zero l p = refl
 still-part on (suc n) [] p = refl
@@ -45,7 +46,7 @@ still-part on (suc n) (b ∷ l) p =
     part-cons on n b l
     ∙ rw (moved-byte on b l (still-moved b (getD l 0 0) (getD l 1 0) (or-left (isApart b) (any isApart (take n l)) p)), still-part on n l (or-right (isApart b) (any isApart (take n l)) p))
 
-pub window : (on : Bool) (i e : ℕ) (l : List ℕ) (x : Bool) → e ≡ i + 64 → (x ≡ true → any isApart (take 64 (drop i l)) ≡ false) → x ≡ true
+pub window : (on : Escaping) (i e : ℕ) (l : List ℕ) (x : Bool) → e ≡ i + 64 → (x ≡ true → any isApart (take 64 (drop i l)) ≡ false) → x ≡ true
     → encodeOf on (normalizeOf (drop i l)) ≡ take (e - i) (drop i l) ++ encodeOf on (normalizeOf (drop (i + 64) l))
 window on i e l x p q r =
     let k : e - i ≡ 64 = omega arith in
@@ -57,7 +58,7 @@ window on i e l x p q r =
 pub shift-less : (l : List ℕ) (w k : ℕ) → w ≡ wordOf (marksOf 8 l) → k ≡ runOf w → (w ≡ 0 → ⊥) → 8 * k < 64
 shift-less l w k m q z = let t : k < 8 = run-of l w k m q .less z in omega arith
 
-module _ (on : Bool) (l : List ℕ) (i e w : ℕ) (p : e ≡ i + 8) (m : w ≡ wordOf (marksOf 8 (drop i l))) where
+module _ (on : Escaping) (l : List ℕ) (i e w : ℕ) (p : e ≡ i + 8) (m : w ≡ wordOf (marksOf 8 (drop i l))) where
   eight : take (e - i) (drop i l) ≡ take 8 (drop i l)
   eight = let k : e - i ≡ 8 = omega arith in rw k
 
@@ -90,7 +91,7 @@ module _ (on : Bool) (l : List ℕ) (i e w : ℕ) (p : e ≡ i + 8) (m : w ≡ w
 
 -- ---- the rest, by its marks
 
-module _ (on : Bool) (l : List ℕ) (i to w : ℕ) (h : i < to) (k : to ≤ length l) (p : w ≡ wordOf (marksOf (to - i) (drop i l))) where
+module _ (on : Escaping) (l : List ℕ) (i to w : ℕ) (h : i < to) (k : to ≤ length l) (p : w ≡ wordOf (marksOf (to - i) (drop i l))) where
   parted : w ≡ markOf (getD l i 0) (getD (drop (i + 1) l) 0 0) (getD (drop (i + 1) l) 1 0) + wordOf (marksOf (to - (i + 1)) (drop (i + 1) l)) * 256
   parted =
       let e : to - i ≡ suc (to - (i + 1)) = omega arith in
@@ -131,7 +132,7 @@ module _ (on : Bool) (l : List ℕ) (i to w : ℕ) (h : i < to) (k : to ≤ leng
 
 -- ---- sixteen bytes, and the last
 
-module _ (on : Bool) (l : List ℕ) (i : ℕ) where
+module _ (on : Escaping) (l : List ℕ) (i : ℕ) where
   pub halves : encodeOf on (partOf 16 (drop i l)) ≡ encodeOf on (partOf 8 (drop i l)) ++ encodeOf on (partOf 8 (drop (i + 8) l))
   halves = part-two on 8 16 (drop i l) (omega arith) ∙ rw drop-drop
 

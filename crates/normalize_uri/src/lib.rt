@@ -7,18 +7,19 @@ ghost use Rattle.encode.specs.Encode.{encodeOf};
 ghost use Rattle.url_run.specs.Private.{marksOf, wordOf};
 ghost use Rattle.normalize_uri.specs.Url.{normalizeOf};
 ghost use Rattle.normalize_uri.specs.Private.{partOf};
+use encode_byte::Escaping;
 
 // Appends the URL, percent-encoded alone.
 pub fn normalize(value: &[u8], out: &mut [u8], at: usize) -> usize
     ensures { λ r. ⌜ Filled (now (out .entry)) at (normalizeOf (now (value .entry))) (now (out .exit)) r ⌝ }
 {
-    put_url(value, false, out, at)
+    put_url(value, Escaping::Off, out, at)
 }
 
-// The same, and then, if `encode_html`, encoded for HTML: blocks of 16 bytes while two more are there to be looked at. Where
+// The same, and then encoded for HTML as `escaping` says: blocks of 16 bytes while two more are there to be looked at. Where
 // many are left, a window of 64 is tried first; one that is no run is not tried again before its end.
-pub fn put_url(value: &[u8], encode_html: bool, out: &mut [u8], at: usize) -> usize
-    ensures { λ r. ⌜ Filled (now (out .entry)) at (encodeOf «encode_html» (normalizeOf (now (value .entry)))) (now (out .exit)) r ⌝ }
+pub fn put_url(value: &[u8], escaping: Escaping, out: &mut [u8], at: usize) -> usize
+    ensures { λ r. ⌜ Filled (now (out .entry)) at (encodeOf escaping (normalizeOf (now (value .entry)))) (now (out .exit)) r ⌝ }
 {
     let mut r = at;
     let mut i = 0;
@@ -34,37 +35,37 @@ pub fn put_url(value: &[u8], encode_html: bool, out: &mut [u8], at: usize) -> us
                 next = i + 64;
             }
         }
-        r = put_block(value, i, encode_html, out, r);
+        r = put_block(value, i, escaping, out, r);
         i += 16;
     }
-    put_tail(value, i, encode_html, out, r)
+    put_tail(value, i, escaping, out, r)
 }
 
 // The last bytes: eight, if two more are there to be looked at, and the rest one by one.
-fn put_tail(value: &[u8], i: usize, encode_html: bool, out: &mut [u8], at: usize) -> usize
+fn put_tail(value: &[u8], i: usize, escaping: Escaping, out: &mut [u8], at: usize) -> usize
     requires { ⌜ i ≤ length (now value) ⌝ }
-    ensures { λ r. ⌜ Filled (now (out .entry)) at (encodeOf «encode_html» (normalizeOf (drop i (now (value .entry))))) (now (out .exit)) r ⌝ }
+    ensures { λ r. ⌜ Filled (now (out .entry)) at (encodeOf escaping (normalizeOf (drop i (now (value .entry))))) (now (out .exit)) r ⌝ }
 {
     if value.len() - i < 10 {
-        return put_part(value, i, value.len(), encode_html, out, at);
+        return put_part(value, i, value.len(), escaping, out, at);
     }
     let mut marks = [0u8; 8];
     url_run::mark_all(value, i, &mut marks);
     let word = url_run::word(&marks);
-    let r = put_eight(value, i, word, encode_html, out, at);
-    put_part(value, i + 8, value.len(), encode_html, out, r)
+    let r = put_eight(value, i, word, escaping, out, at);
+    put_part(value, i + 8, value.len(), escaping, out, r)
 }
 
 // Sixteen bytes: copied at once where none has a mark.
-fn put_block(value: &[u8], i: usize, encode_html: bool, out: &mut [u8], at: usize) -> usize
+fn put_block(value: &[u8], i: usize, escaping: Escaping, out: &mut [u8], at: usize) -> usize
     requires { ⌜ i + 18 ≤ length (now value) ⌝ }
-    ensures { λ r. ⌜ Filled (now (out .entry)) at (encodeOf «encode_html» (partOf 16 (drop i (now (value .entry))))) (now (out .exit)) r ⌝ }
+    ensures { λ r. ⌜ Filled (now (out .entry)) at (encodeOf escaping (partOf 16 (drop i (now (value .entry))))) (now (out .exit)) r ⌝ }
 {
     let mut marks = [0u8; 16];
     url_run::mark_all(value, i, &mut marks);
     let low = url_run::word(&marks[0..8]);
     let high = url_run::word(&marks[8..16]);
-    put_halves(value, i, low, high, encode_html, out, at)
+    put_halves(value, i, low, high, escaping, out, at)
 }
 
 // By the marks of each eight.
@@ -73,18 +74,18 @@ fn put_halves(
     i: usize,
     low: u64,
     high: u64,
-    encode_html: bool,
+    escaping: Escaping,
     out: &mut [u8],
     at: usize,
 ) -> usize
     requires { ⌜ (i + 16 ≤ length (now value)) × (low ≡ wordOf (marksOf 8 (drop i (now value)))) × (high ≡ wordOf (marksOf 8 (drop (i + 8) (now value)))) ⌝ }
-    ensures { λ r. ⌜ Filled (now (out .entry)) at (encodeOf «encode_html» (partOf 16 (drop i (now (value .entry))))) (now (out .exit)) r ⌝ }
+    ensures { λ r. ⌜ Filled (now (out .entry)) at (encodeOf escaping (partOf 16 (drop i (now (value .entry))))) (now (out .exit)) r ⌝ }
 {
     if (low == 0) & (high == 0) {
         return lent::put_sixteen(out, at, &value[i..i + 16]);
     }
-    let r = put_eight(value, i, low, encode_html, out, at);
-    put_eight(value, i + 8, high, encode_html, out, r)
+    let r = put_eight(value, i, low, escaping, out, at);
+    put_eight(value, i + 8, high, escaping, out, r)
 }
 
 // Eight bytes with their marks: the run before the first mark at once, the rest one by one.
@@ -92,19 +93,19 @@ fn put_eight(
     value: &[u8],
     i: usize,
     word: u64,
-    encode_html: bool,
+    escaping: Escaping,
     out: &mut [u8],
     at: usize,
 ) -> usize
     requires { ⌜ (i + 8 ≤ length (now value)) × (word ≡ wordOf (marksOf 8 (drop i (now value)))) ⌝ }
-    ensures { λ r. ⌜ Filled (now (out .entry)) at (encodeOf «encode_html» (partOf 8 (drop i (now (value .entry))))) (now (out .exit)) r ⌝ }
+    ensures { λ r. ⌜ Filled (now (out .entry)) at (encodeOf escaping (partOf 8 (drop i (now (value .entry))))) (now (out .exit)) r ⌝ }
 {
     if word == 0 {
         return lent::put_ahead(out, at, &value[i..i + 8], 8);
     }
     let k = url_run::run(word);
     let r = lent::put_ahead(out, at, &value[i..i + 8], k);
-    put_rest(value, i + k, i + 8, word >> (8 * k), encode_html, out, r)
+    put_rest(value, i + k, i + 8, word >> (8 * k), escaping, out, r)
 }
 
 // The bytes from `from` to `to`, one by one, by their marks.
@@ -113,12 +114,12 @@ fn put_rest(
     from: usize,
     to: usize,
     word: u64,
-    encode_html: bool,
+    escaping: Escaping,
     out: &mut [u8],
     at: usize,
 ) -> usize
     requires { ⌜ (from ≤ to) × (to ≤ length (now value)) × (word ≡ wordOf (marksOf (to - from) (drop from (now value)))) ⌝ }
-    ensures { λ r. ⌜ Filled (now (out .entry)) at (encodeOf «encode_html» (partOf (to - from) (drop from (now (value .entry))))) (now (out .exit)) r ⌝ }
+    ensures { λ r. ⌜ Filled (now (out .entry)) at (encodeOf escaping (partOf (to - from) (drop from (now (value .entry))))) (now (out .exit)) r ⌝ }
 {
     let mut r = at;
     let mut i = from;
@@ -131,7 +132,7 @@ fn put_rest(
             i += 1;
             continue;
         }
-        r = url_byte::put_marked_byte(value[i], encode_html, out, r);
+        r = url_byte::put_marked_byte(value[i], escaping, out, r);
         i += 1;
     }
     r
@@ -142,17 +143,17 @@ fn put_part(
     value: &[u8],
     from: usize,
     to: usize,
-    encode_html: bool,
+    escaping: Escaping,
     out: &mut [u8],
     at: usize,
 ) -> usize
     requires { ⌜ (from ≤ to) × (to ≤ length (now value)) ⌝ }
-    ensures { λ r. ⌜ Filled (now (out .entry)) at (encodeOf «encode_html» (partOf (to - from) (drop from (now (value .entry))))) (now (out .exit)) r ⌝ }
+    ensures { λ r. ⌜ Filled (now (out .entry)) at (encodeOf escaping (partOf (to - from) (drop from (now (value .entry))))) (now (out .exit)) r ⌝ }
 {
     let mut r = at;
     let mut i = from;
     while i < to {
-        r = url_byte::put_url_byte(value, i, encode_html, out, r);
+        r = url_byte::put_url_byte(value, i, escaping, out, r);
         i += 1;
     }
     r

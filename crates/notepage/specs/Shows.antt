@@ -21,7 +21,7 @@ use Rattle.notepage.specs.declared.Shown.{Shown}
 use Rattle.notepage.specs.declared.Shown.the-variants.{Page, Refused, Unread}
 
 abbrev pub offOf : Options
-offOf = record { «allow_dangerous_html» = false; «allow_dangerous_protocol» = false; «allow_any_img_src» = false; ending = Lf; names = Html5 }
+offOf = record { «allow_dangerous_html» = false; «allow_dangerous_protocol» = false; «allow_any_img_src» = false; «escape_apostrophes» = false; ending = Lf; names = Html5 }
 
 abbrev pub shownOf : Built → Shown
 shownOf (B.Page n) = Page n

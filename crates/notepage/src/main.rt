@@ -199,6 +199,7 @@ fn off() -> Options
         allow_dangerous_html: false,
         allow_dangerous_protocol: false,
         allow_any_img_src: false,
+        escape_apostrophes: false,
         ending: Ending::Lf,
         names: Names::Html5,
     }

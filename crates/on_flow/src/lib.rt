@@ -175,7 +175,7 @@ fn push_chunk(c: Context, text: &[u8], e: Event, captures: &mut [u8], out: &mut 
         return c;
     }
     let mut r = c;
-    let encoding = state_context::encodes(c);
+    let escaping = state_context::escaping_in(c);
     let before = e.before;
     let after = e.after;
     r.buffers = write_pieces::push_padded(
@@ -185,7 +185,7 @@ fn push_chunk(c: Context, text: &[u8], e: Event, captures: &mut [u8], out: &mut 
         before,
         &text[from..to],
         after,
-        encoding,
+        escaping,
     );
     r
 }

@@ -36,8 +36,8 @@ abbrev pub counted : (label : List ℕ) → List State.Media → State → State
 counted label ms s = setCalls (countAt (callIndex label (s .kept .calls)) label (s .kept .calls)) (setMedia ms s)
 
 -- and this is written of it
-abbrev pub textOf : (label : List ℕ) → List Call → List ℕ
-textOf label cs = callText (addressOf label) (suc (callIndex label cs)) (timesAt (callIndex label cs) (countAt (callIndex label cs) label cs))
+abbrev pub textOf : (apostrophes : Bool) → (label : List ℕ) → List Call → List ℕ
+textOf apostrophes label cs = callText (addressOf apostrophes label) (suc (callIndex label cs)) (timesAt (callIndex label cs) (countAt (callIndex label cs) label cs))
 
 record Called (t : Turn) (s u : State) : Type 0 where
   pub newest : State.Media
@@ -47,7 +47,7 @@ record Called (t : Turn) (s u : State) : Type 0 where
   pub media-are : s .media ≡ newest ∷ others
   pub span-is : newest .labelId ≡ some span
   pub label-there : strOf (t .text) span ≡ go label
-  pub then-is : (if s .flags .alt then counted label others s else push (textOf label (s .kept .calls)) (counted label others s)) ≡ u
+  pub then-is : (if s .flags .alt then counted label others s else push (textOf (s .fixed .apostrophes) label (s .kept .calls)) (counted label others s)) ≡ u
 
 need-there : {A : Type 0} (o : Option A) (a : A) → need o ≡ go a → o ≡ some a
 need-there none a p = never p
@@ -56,7 +56,7 @@ need-there (some b) a p = cc
 called : (t : Turn) (s u : State) → callNote t s ≡ go u → Called t s u
 unfolding callNote
 called t s u p =
-    let last : List State.Media → List ℕ → State = λ ms label. (if s .flags .alt then counted label ms s else push (textOf label (s .kept .calls)) (counted label ms s)) in
+    let last : List State.Media → List ℕ → State = λ ms label. (if s .flags .alt then counted label ms s else push (textOf (s .fixed .apostrophes) label (s .kept .calls)) (counted label ms s)) in
     let f = newest-there s u (λ (m, ms). need (m .labelId) >>= λ q. strOf (t .text) q >>= λ label. go (last ms label)) p in
     let g = first-goes (need (f .0 .labelId)) (λ q. strOf (t .text) q >>= λ label. go (last (f .1) label)) u (f .3) in
     let h = first-goes (strOf (t .text) (g .0)) (λ label. go (last (f .1) label)) u (g .2) in
@@ -89,7 +89,7 @@ pub record KnownCall (p : Span) (text : List ℕ) (s u : State) : Type 0 where
   pub label : List ℕ
   pub media-are : s .media ≡ newest ∷ others
   pub label-there : LabelIs text (p .from .0) (p .to .0) label
-  pub then-is : (if s .flags .alt then counted label others s else push (textOf label (s .kept .calls)) (counted label others s)) ≡ u
+  pub then-is : (if s .flags .alt then counted label others s else push (textOf (s .fixed .apostrophes) label (s .kept .calls)) (counted label others s)) ≡ u
 
 pub known : {text : List ℕ} {b : Whole} {w : World} {p : Span} (t : Turn) (s u : State) → b .links .media .«label_id» ≡ L.Is p → t .text ≡ text → b .links .end ≤ regionSize → Mirrors text b w s → callNote t s ≡ go u → KnownCall p text s u
 known {text} {p = p} t s u e v h y q =

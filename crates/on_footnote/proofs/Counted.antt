@@ -19,8 +19,9 @@ use Rattle.machine_bounded.specs.Within.{fitting, within}
 use Rattle.machine_bounded.proofs.Bounds.{done, fits}
 use Rattle.regions.specs.Regions.{regionAt}
 use Rattle.state_buffers.specs.declared.Buffers.{Buffers}
-use Rattle.state_context.specs.Rel.{Any, Tells}
+use Rattle.state_context.specs.Rel.{Any, Tells, apostrophesIn}
 use Rattle.state_context.proofs.Laws.{withBuffers}
+use Rattle.state_context.proofs.Constants.{apostrophes-told}
 use Rattle.state_context.proofs.Commands.{flag-told}
 use Rattle.state_media.specs.declared.Links.{Links}
 use Rattle.state_media.specs.declared.Span.{Span}
@@ -64,15 +65,17 @@ record Counted (text : List ℕ) (index : ℕ) (r : Whole) (w : World) (label : 
   pub built : Mirrors text r w (counted label ms s)
 
 -- then it is written
-writing : {text label work′ out′ : List ℕ} {ms : List State.Media} {index times from to : ℕ} {r : Whole} {w : World} {x : Buffers} (s : State) → Counted text index r w label ms s → TellsTimes (w .tables .calls) index times
-    → WritesCall (r .context .buffers) text from to index times (w .work) (w .out) x work′ out′ → LabelIs text from to label → length work′ ≡ length (w .work)
-    → Mirrors text (withContext (withBuffers x (r .context)) r) (withOut out′ (withWork work′ w)) (push (textOf label (s .kept .calls)) (counted label ms s))
-writing {label = label} {work′ = work′} {out′ = out′} {ms = ms} {index = index} {times = times} {r = r} {w = w} {x = x} s c tells writes is n =
+writing : {a : Bool} {text label work′ out′ : List ℕ} {ms : List State.Media} {index times from to : ℕ} {r : Whole} {w : World} {x : Buffers} (s : State) → Counted text index r w label ms s → TellsTimes (w .tables .calls) index times
+    → a ≡ s .fixed .apostrophes → WritesCall a (r .context .buffers) text from to index times (w .work) (w .out) x work′ out′ → LabelIs text from to label → length work′ ≡ length (w .work)
+    → Mirrors text (withContext (withBuffers x (r .context)) r) (withOut out′ (withWork work′ w)) (push (textOf (s .fixed .apostrophes) label (s .kept .calls)) (counted label ms s))
+writing {a = a} {label = label} {work′ = work′} {out′ = out′} {ms = ms} {index = index} {times = times} {r = r} {w = w} {x = x} s c tells wants writes is n =
     let e = c .index-is in
     let cs = s .kept .calls in
     let m : times ≡ timesAt index (countAt (callIndex label cs) label cs) = tells .tells (c .built .kept) (c .there) in
-    let g = writes .writes label is (c .few) (long-enough (c .built .long)) in
-    let o : callText (addressOf label) (suc index) times ≡ textOf label cs = ap (callText (addressOf label) (suc index)) m ∙ ap (λ (i : ℕ). callText (addressOf label) (suc i) (timesAt i (countAt (callIndex label cs) label cs))) e in
+    let q = s .fixed .apostrophes in
+    let t = rw wants at writes in
+    let g = t .writes label is (c .few) (long-enough (c .built .long)) in
+    let o : callText (addressOf q label) (suc index) times ≡ textOf q label cs = ap (callText (addressOf q label) (suc index)) m ∙ ap (λ (i : ℕ). callText (addressOf q label) (suc i) (timesAt i (countAt (callIndex label cs) label cs))) e in
     shown (counted label ms s) (record { keeps = rw (← o) (g .keeps); behind = g .behind; long = n }) (c .built)
 
 pub by-label : {p : Span} {b r : Whole} {text work out calls work′ out′ calls′ : List ℕ} → CallsLabel p b text work out calls r work′ out′ calls′ → b .links .media .«label_id» ≡ L.Is p → OnCalls Held call b text work out calls r work′ out′ calls′
@@ -88,7 +91,7 @@ module _ {p : Span} {b : Whole} {text calls calls′ : List ℕ} {index : ℕ} {
       let counts′ = rw (← h) at counts in
       let e : index ≡ callIndex label cs = finds′ .finds (y .kept) (c .label-there) in
       let g : index ≤ length cs = rw e (call-index-low label cs) in
-      let z : u .kept .calls ≡ countAt index label cs = ap (λ (x : State.Kept). x .calls) (kept-is (s .flags .alt) (textOf label cs) (counted label (c .others) s) u (c .then-is)) ∙ ap (λ (i : ℕ). countAt i label cs) (sym e) in
+      let z : u .kept .calls ≡ countAt index label cs = ap (λ (x : State.Kept). x .calls) (kept-is (s .flags .alt) (textOf (s .fixed .apostrophes) label cs) (counted label (c .others) s) u (c .then-is)) ∙ ap (λ (i : ℕ). countAt i label cs) (sym e) in
       let n : index < 64 = index-fits index label cs g (rw z at (fits u f .calls)) in
       let m : timesAt index cs < 0x1_0000_0000 = times-fit index label cs (rw z at (fits u f .times)) in
       let v : InTables k text (regionAt keptAt (w .work)) (tables (w .tables .definitions) (w .tables .footnotes) calls′ (w .tables .labels)) (setCalls (countAt (callIndex label cs) label cs) s) = rw (← e) (counts′ .counts (y .kept) (c .label-there) g n m) in
@@ -116,18 +119,18 @@ module _ {p : Span} {b : Whole} {text calls calls′ : List ℕ} {index : ℕ} {
             let c = known t s u e (v .text-is) a y (d .went) in
             let r = counting w s u h a (d .fits) y c in
             let x : s .flags .alt ≡ true = flag-told asked t (y .context) ∙ image in
-            let z : counted (c .label) (c .others) s ≡ u = ap (λ (o : Bool). if o then counted (c .label) (c .others) s else push (textOf (c .label) (s .kept .calls)) (counted (c .label) (c .others) s)) (sym x) ∙ c .then-is in
+            let z : counted (c .label) (c .others) s ≡ u = ap (λ (o : Bool). if o then counted (c .label) (c .others) s else push (textOf (s .fixed .apostrophes) (c .label) (s .kept .calls)) (counted (c .label) (c .others) s)) (sym x) ∙ c .then-is in
             same-lent w i j (rw (← z) (r .built));
       };
     };
   }
 
   -- elsewhere
-  pub calls-written : {times : ℕ} {x : Buffers} {work out work′ out′ : List ℕ} {o : Bool} → Tells Any (Test.is alt) (b .context) o → o ≡ false → TellsTimes calls′ index times
-      → WritesCall (b .context .buffers) text (p .from .0) (p .to .0) index times work out x work′ out′ → length work′ ≡ length work
+  pub calls-written : {times : ℕ} {x : Buffers} {work out work′ out′ : List ℕ} {o apostrophes : Bool} → Tells Any (Test.is alt) (b .context) o → o ≡ false → TellsTimes calls′ index times
+      → apostrophes ≡ apostrophesIn (b .context .word) → WritesCall apostrophes (b .context .buffers) text (p .from .0) (p .to .0) index times work out x work′ out′ → length work′ ≡ length work
       → CallsLabel p b text work out calls (withContext (withBuffers x (b .context)) (withKept k (withLinks l b))) work′ out′ calls′
   unfolding within exec
-  calls-written asked image tells writes n = record {
+  calls-written asked image tells wants writes n = record {
     calls-label = λ e. record {
       on-calls = λ w i j h. record {
         handles = λ t s u v a y q.
@@ -135,8 +138,8 @@ module _ {p : Span} {b : Whole} {text calls calls′ : List ℕ} {index : ℕ} {
             let c = known t s u e (v .text-is) a y (d .went) in
             let r = counting w s u h a (d .fits) y c in
             let f : s .flags .alt ≡ false = flag-told asked t (y .context) ∙ image in
-            let z : push (textOf (c .label) (s .kept .calls)) (counted (c .label) (c .others) s) ≡ u = ap (λ (o : Bool). if o then counted (c .label) (c .others) s else push (textOf (c .label) (s .kept .calls)) (counted (c .label) (c .others) s)) (sym f) ∙ c .then-is in
-            rw (← z) (writing s r tells (rw (← i, ← j) at writes) (c .label-there) (n ∙ ap length (sym i)));
+            let z : push (textOf (s .fixed .apostrophes) (c .label) (s .kept .calls)) (counted (c .label) (c .others) s) ≡ u = ap (λ (o : Bool). if o then counted (c .label) (c .others) s else push (textOf (s .fixed .apostrophes) (c .label) (s .kept .calls)) (counted (c .label) (c .others) s)) (sym f) ∙ c .then-is in
+            rw (← z) (writing s r tells (apostrophes-told wants (y .context)) (rw (← i, ← j) at writes) (c .label-there) (n ∙ ap length (sym i)));
       };
     };
   }

@@ -1,5 +1,6 @@
 -- A call written to the newest buffer: the captures are the first of the work bytes. Assumes nothing.
 use mathlib.Core.Path.{_≡_, _∙_}
+use mathlib.Core.Bool.{Bool}
 use mathlib.Core.List.{List, _++_}
 use Prim.Native.Nat.{ℕ, suc, _+_, _-_, _≤_, _<_}
 use native.Mathlib.Omega.{arith}
@@ -12,21 +13,21 @@ use Rattle.state_buffers.specs.declared.Buffers.{Buffers}
 use Rattle.state_buffers.specs.Stand as Stand
 use Rattle.on_footnote.specs.Private.{WritesCall}
 
-module _ {b : Buffers} {text work out : List ℕ} {from to index times : ℕ} where
-  pub unordered : to < from → WritesCall b text from to index times work out b work out
+module _ {apostrophes : Bool} {b : Buffers} {text work out : List ℕ} {from to index times : ℕ} where
+  pub unordered : to < from → WritesCall apostrophes b text from to index times work out b work out
   unordered h = record { writes = λ label l i n. absurd (omega (arith, l .ordered)) }
 
-  pub outside : length text < to → WritesCall b text from to index times work out b work out
+  pub outside : length text < to → WritesCall apostrophes b text from to index times work out b work out
   outside h = record { writes = λ label l i n. absurd (omega (arith, l .inside)) }
 
-  pub short : length work < regionSize → WritesCall b text from to index times work out b work out
+  pub short : length work < regionSize → WritesCall apostrophes b text from to index times work out b work out
   short h = record { writes = λ label l i n. absurd (omega arith) }
 
-  pub full : 64 ≤ index → WritesCall b text from to index times work out b work out
+  pub full : 64 ≤ index → WritesCall apostrophes b text from to index times work out b work out
   full h = record { writes = λ label l i n. absurd (omega arith) }
 
-  pub written : {r : Buffers} {captures out′ : List ℕ} → length captures ≡ length (take regionSize work) → Stand.Keeps (push (callText (addressOf (take (to - from) (drop from text))) (index + 1) times)) b (take regionSize work) out r captures out′
-      → WritesCall b text from to index times work out r (captures ++ drop regionSize work) out′
+  pub written : {r : Buffers} {captures out′ : List ℕ} → length captures ≡ length (take regionSize work) → Stand.Keeps (push (callText (addressOf apostrophes (take (to - from) (drop from text))) (index + 1) times)) b (take regionSize work) out r captures out′
+      → WritesCall apostrophes b text from to index times work out r (captures ++ drop regionSize work) out′
   written {captures = captures} e k = record {
     writes = λ label l i n.
         let a : length captures ≡ regionSize = e ∙ simp length-take (omega arith) in

@@ -1,5 +1,6 @@
 -- What the inner functions do: no part of a promise. Assumes nothing.
 use mathlib.Core.Path.{_≡_}
+use mathlib.Core.Bool.{Bool}
 use mathlib.Core.List.{List}
 use Prim.Native.Nat.{ℕ, suc, _≤_, _<_}
 use lib.ListN.{length, take, drop}
@@ -25,5 +26,5 @@ pub record Written (t : List ℕ) (b : Buffers) (work out : List ℕ) (r : Buffe
   pub keeps : Stand.Keeps (push t) b (take regionSize work) out r (take regionSize work′) out′
   pub behind : drop regionSize work′ ≡ drop regionSize work
 
-pub record WritesCall (b : Buffers) (text : List ℕ) (from to index times : ℕ) (work out : List ℕ) (r : Buffers) (work′ out′ : List ℕ) : Type 0 where
-  pub writes : (label : List ℕ) → LabelIs text from to label → index < 64 → regionSize ≤ length work → Written (callText (addressOf label) (suc index) times) b work out r work′ out′
+pub record WritesCall (apostrophes : Bool) (b : Buffers) (text : List ℕ) (from to index times : ℕ) (work out : List ℕ) (r : Buffers) (work′ out′ : List ℕ) : Type 0 where
+  pub writes : (label : List ℕ) → LabelIs text from to label → index < 64 → regionSize ≤ length work → Written (callText (addressOf apostrophes label) (suc index) times) b work out r work′ out′

@@ -68,7 +68,18 @@ fn call_label(
     }
     let times = state_kept::times_at(calls, index);
     let mut c = b.context;
-    c.buffers = write_call(c.buffers, text, from, to, index, times, work, out);
+    let apostrophes = state_context::apostrophes_in(c);
+    c.buffers = write_call(
+        c.buffers,
+        text,
+        from,
+        to,
+        apostrophes,
+        index,
+        times,
+        work,
+        out,
+    );
     r.context = c;
     r
 }
@@ -79,12 +90,13 @@ fn write_call(
     text: &[u8],
     from: usize,
     to: usize,
+    apostrophes: bool,
     index: usize,
     times: usize,
     work: &mut [u8],
     out: &mut [u8],
 ) -> Buffers
-    ensures { λ r. ⌜ WritesCall b (now (text .entry)) from to index times (now (work .entry)) (now (out .entry)) r (now (work .exit)) (now (out .exit)) ⌝ }
+    ensures { λ r. ⌜ WritesCall apostrophes b (now (text .entry)) from to index times (now (work .entry)) (now (out .entry)) r (now (work .exit)) (now (out .exit)) ⌝ }
 {
     if to < from {
         return b;
@@ -100,7 +112,7 @@ fn write_call(
     }
     let label = &text[from..to];
     let captures = &mut work[0..regions::SIZE];
-    write_footnote::push_call(b, captures, out, label, index + 1, times)
+    write_footnote::push_call(b, captures, out, label, apostrophes, index + 1, times)
 }
 
 // ---- definitions

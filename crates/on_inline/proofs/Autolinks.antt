@@ -70,12 +70,12 @@ module _ (text : List ℕ) (e : Event) {options : Options} {c : Context} {w o : 
 
 -- ---- mail
 
-module _ (text : List ℕ) (e : Event) {c : Context} {w o : List ℕ} where
-  pub mail-back : e .to .0 < e .from .0 → Keeps (Sees text e) (url "mailto:") c w o c w o
-  mail-back h = back (λ t v. v) "mailto:" h
+module _ (text : List ℕ) (e : Event) {options : Options} {c : Context} {w o : List ℕ} where
+  pub mail-back : e .to .0 < e .from .0 → Keeps (SeesWith text e options) (url "mailto:") c w o c w o
+  mail-back h = back (λ t v. v .sees) "mailto:" h
 
-  pub mail-out : length text < e .to .0 → Keeps (Sees text e) (url "mailto:") c w o c w o
-  mail-out h = out (λ t v. v) "mailto:" h
+  pub mail-out : length text < e .to .0 → Keeps (SeesWith text e options) (url "mailto:") c w o c w o
+  mail-out h = out (λ t v. v .sees) "mailto:" h
 
-  pub mails : {x : Buffers} {w′ o′ : List ℕ} → PushesMail (sliceIn text e) (c .buffers) w o x w′ o′ → Keeps (Sees text e) (url "mailto:") c w o (withBuffers x c) w′ o′
-  mails k = links (λ t v. v) "mailto:" (λ t v. k .pushes (t .options))
+  pub mails : {x : Buffers} {w′ o′ : List ℕ} → PushesMail (options .«escape_apostrophes») (sliceIn text e) (c .buffers) w o x w′ o′ → Keeps (SeesWith text e options) (url "mailto:") c w o (withBuffers x c) w′ o′
+  mails k = links (λ t v. v .sees) "mailto:" (λ t v. k .pushes (t .options) (ap (λ (x : Options). x .«escape_apostrophes») (v .options-are)))

@@ -106,9 +106,16 @@ fn push_url(
     r
 }
 
-// The event's slice as an address, which is safe whatever the options are.
-fn push_mail(c: Context, text: &[u8], e: Event, captures: &mut [u8], out: &mut [u8]) -> Context
-    ensures { λ r. ⌜ Keeps (Sees (now (text .entry)) e) (url "mailto:") c (now (captures .entry)) (now (out .entry)) r (now (captures .exit)) (now (out .exit)) ⌝ }
+// The event's slice as an address, which is safe whatever may be dangerous.
+fn push_mail(
+    c: Context,
+    text: &[u8],
+    e: Event,
+    options: Options,
+    captures: &mut [u8],
+    out: &mut [u8],
+) -> Context
+    ensures { λ r. ⌜ Keeps (SeesWith (now (text .entry)) e options) (url "mailto:") c (now (captures .entry)) (now (out .entry)) r (now (captures .exit)) (now (out .exit)) ⌝ }
 {
     let from = e.from.0;
     let to = e.to.0;
@@ -119,7 +126,13 @@ fn push_mail(c: Context, text: &[u8], e: Event, captures: &mut [u8], out: &mut [
         return c;
     }
     let mut r = c;
-    r.buffers = write_pieces::push_mail(c.buffers, captures, out, &text[from..to]);
+    r.buffers = write_pieces::push_mail(
+        c.buffers,
+        captures,
+        out,
+        &text[from..to],
+        options.escape_apostrophes,
+    );
     r
 }
 
@@ -142,14 +155,21 @@ fn begin_protocol(
     state_context::push(r, captures, out, b"\">")
 }
 
-fn begin_email(c: Context, text: &[u8], e: Event, captures: &mut [u8], out: &mut [u8]) -> Context
-    ensures { λ r. ⌜ Keeps (Sees (now (text .entry)) e) (unless (is alt) (put "<a href=\"" ▸ url "mailto:" ▸ put "\">")) c (now (captures .entry)) (now (out .entry)) r (now (captures .exit)) (now (out .exit)) ⌝ }
+fn begin_email(
+    c: Context,
+    text: &[u8],
+    e: Event,
+    options: Options,
+    captures: &mut [u8],
+    out: &mut [u8],
+) -> Context
+    ensures { λ r. ⌜ Keeps (SeesWith (now (text .entry)) e options) (unless (is alt) (put "<a href=\"" ▸ url "mailto:" ▸ put "\">")) c (now (captures .entry)) (now (out .entry)) r (now (captures .exit)) (now (out .exit)) ⌝ }
 {
     if state_context::is_alt(c) {
         return c;
     }
     let begun = state_context::push(c, captures, out, b"<a href=\"");
-    let r = push_mail(begun, text, e, captures, out);
+    let r = push_mail(begun, text, e, options, captures, out);
     state_context::push(r, captures, out, b"\">")
 }
 
@@ -165,12 +185,13 @@ pub fn on_exit_autolink_email(
     c: Context,
     text: &[u8],
     e: Event,
+    options: Options,
     captures: &mut [u8],
     out: &mut [u8],
 ) -> Context
-    ensures { λ r. ⌜ Keeps (Sees (now (text .entry)) e) onExitAutolinkEmail c (now (captures .entry)) (now (out .entry)) r (now (captures .exit)) (now (out .exit)) ⌝ }
+    ensures { λ r. ⌜ Keeps (SeesWith (now (text .entry)) e options) onExitAutolinkEmail c (now (captures .entry)) (now (out .entry)) r (now (captures .exit)) (now (out .exit)) ⌝ }
 {
-    let r = begin_email(c, text, e, captures, out);
+    let r = begin_email(c, text, e, options, captures, out);
     end_autolink(r, text, e, captures, out)
 }
 

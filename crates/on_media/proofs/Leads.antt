@@ -59,9 +59,9 @@ own-bytes region end p o ds m c k q = on (m .destination) k q
     on (defined n) x r = absurd x
 
 -- no bytes make no URL
-sanitize-none : sanitizeOf [] ≡ []
+sanitize-none : (apostrophes : Bool) → sanitizeOf apostrophes [] ≡ []
 unfolding sanitizeOf encodeOf normalizeOf
-sanitize-none = refl
+sanitize-none apostrophes = refl
 
 either-none : (x : Bool) (a c : List ℕ) → a ≡ [] → c ≡ [] → (if x then a else c) ≡ []
 either-none true a c p q = p
@@ -71,7 +71,9 @@ url-none : (o : Options) (image : Bool) → urlOf o image [] ≡ []
 unfolding urlOf sanitizeWithProtocolsOf
 url-none o image =
     let schemes = if image then imageSchemes else linkSchemes in
-    either-none (o .«allow_dangerous_protocol» || (o .«allow_any_img_src» && image)) (sanitizeOf []) (if isAllowed schemes [] then sanitizeOf [] else []) sanitize-none (either-none (isAllowed schemes []) (sanitizeOf []) [] sanitize-none refl)
+    let safe = sanitizeOf (o .«escape_apostrophes») [] in
+    let none = sanitize-none (o .«escape_apostrophes») in
+    either-none (o .«allow_dangerous_protocol» || (o .«allow_any_img_src» && image)) safe (if isAllowed schemes [] then safe else []) none (either-none (isAllowed schemes []) safe [] none refl)
 
 url-or-none : (o : Options) (image : Bool) (x : Option (List ℕ)) → urlOf o image (orEmpty x) ≡ orNone x (urlOf o image)
 url-or-none o image none = url-none o image

@@ -1,11 +1,12 @@
 -- What a character reference stands for, by the marker that waits. Assumes nothing.
 use mathlib.Core.Path.{_≡_, ap}
-use mathlib.Core.Bool.{Bool, true}
+use mathlib.Core.Bool.{true}
 use mathlib.Core.List.{List}
 use mathlib.Core.Option.{Option, none, some}
 use Prim.Native.Nat.{ℕ, _<_}
 use native.Mathlib.Omega.{arith}
 use lib.ListN.{length}
+use Rattle.encode_byte.specs.declared.Escaping.{Escaping}
 use Rattle.encode.specs.Encode.{encodeOf}
 use Rattle.character_reference.specs.declared.Marker.{Marker}
 use Rattle.character_reference.specs.declared.Names.{Names}
@@ -14,10 +15,9 @@ use Rattle.event.specs.declared.Event.{Event}
 use Rattle.machine.specs.declared.Fixed.{Fixed}
 use Rattle.machine.specs.State.{State}
 use Rattle.machine.specs.Outcome.{go, _>>=_, need}
-use Rattle.machine.specs.Set.{encode, setMarker}
-use Rattle.machine.specs.Buffers.{push, pushEncoded}
+use Rattle.machine.specs.Set.{setMarker}
+use Rattle.machine.specs.Buffers.{push, escapingNow, pushEncoded}
 use Rattle.machine.specs.Turn.{Turn, ownStr}
-use Rattle.machine.specs.Test.{is}
 use Rattle.machine.specs.Command.{exec}
 use Rattle.machine.specs.Words.{reference}
 use Rattle.machine.proofs.Outcomes.{never, first-goes}
@@ -28,9 +28,9 @@ use Rattle.write_pieces.specs.Pieces.{PushesReference}
 use Rattle.state_context.specs.declared.Mark.{Mark}
 use Rattle.state_context.specs.declared.Mark.the-variants as M
 use Rattle.state_context.specs.declared.Context.{Context}
-use Rattle.state_context.specs.Rel.{Rel, Any, Sees, Keeps, Tells, MarkIs, ForgetsMarker, namesIn}
+use Rattle.state_context.specs.Rel.{Rel, Sees, Keeps, MarkIs, ForgetsMarker, namesIn, escapingIn}
 use Rattle.state_context.proofs.Laws.{withBuffers, rel-buffers, pushed}
-use Rattle.state_context.proofs.Commands.{flag-told}
+use Rattle.state_context.proofs.Constants.{escaping-told}
 use Rattle.state_context.proofs.Slices.{Sliced}
 use Rattle.on_inline.proofs.Own.{sliceIn, own}
 
@@ -51,7 +51,7 @@ record Referred (text : List ℕ) (e : Event) (s u : State) : Type 0 where
   pub waits : s .waiting .marker ≡ some mark
   pub slice : Sliced text e value
   pub stands-for : referenceFor (s .fixed .names) mark value ≡ some meaning
-  pub is : push (encodeOf (s .flags .encode) meaning) (setMarker none s) ≡ u
+  pub is : push (encodeOf (escapingNow s) meaning) (setMarker none s) ≡ u
 
 module _ (text : List ℕ) (e : Event) where
   went : (t : Turn) (s u : State) → Sees text e t → within reference t s ≡ go u → Referred text e s u
@@ -86,7 +86,7 @@ module _ (text : List ℕ) (e : Event) where
           let z : _≡_ {A = ℕ} 0 1 = cc in absurd (omega arith);
     }
 
-    pub refers : {n : Mark} {r : Context} {y : Bool} {x : Buffers} {w′ o′ : List ℕ} {names : Names} (m : Marker) → MarkIs c n → n ≡ M.Is m → names ≡ namesIn (c .word) → ForgetsMarker c r → Tells Any (is encode) c y → PushesReference names m (sliceIn text e) y (r .buffers) w o x w′ o′
+    pub refers : {n : Mark} {r : Context} {y : Escaping} {x : Buffers} {w′ o′ : List ℕ} {names : Names} (m : Marker) → MarkIs c n → n ≡ M.Is m → names ≡ namesIn (c .word) → ForgetsMarker c r → y ≡ escapingIn (c .word) → PushesReference names m (sliceIn text e) y (r .buffers) w o x w′ o′
         → Keeps (Sees text e) reference c w o (withBuffers x r) w′ o′
     refers {y = y} {names = names} m a q j f d k = record {
       keeps = λ t b s u v x p.
@@ -95,7 +95,7 @@ module _ (text : List ℕ) (e : Event) where
           let i : m ≡ g .mark = (let j = g .waits in cc) in
           let n : referenceFor names m (sliceIn text e) ≡ some (g .meaning) = rw (j, chosen x, i, ← g .slice .bytes) (g .stands-for) in
           let l = encodeOf y (g .meaning) in
-          let z : push l (setMarker none s) ≡ u = rw (← flag-told d t x) (g .is) in
+          let z : push l (setMarker none s) ≡ u = rw (← escaping-told d x) (g .is) in
           let a = f .forgets w o b s x in
           rw (← z) (rel-buffers a (pushed l (setMarker none s)) (k .pushes (g .meaning) n .keeps b (setMarker none s) (a .stand)));
     }

@@ -99,7 +99,7 @@ pub fn on_exit_character_reference_value(
     };
     let names = state_context::names_in(c);
     let mut r = state_context::forget_marker(c);
-    let encoding = state_context::encodes(c);
+    let escaping = state_context::escaping_in(c);
     r.buffers = write_pieces::push_reference(
         r.buffers,
         captures,
@@ -107,7 +107,7 @@ pub fn on_exit_character_reference_value(
         names,
         m,
         &text[from..to],
-        encoding,
+        escaping,
     );
     r
 }

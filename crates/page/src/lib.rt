@@ -18,33 +18,34 @@ use bundle_parts::Reader;
 use bundle_writer::Packed;
 use call_normalize::Normalized;
 use call_text_answer::Written;
+use encode_byte::Escaping;
 
-// Escapes a text for HTML; without `encoding` only NUL is replaced.
-pub fn escape(text: &[u8], encoding: bool, out: &mut [u8]) -> Written
-    ensures { λ r. ⌜ Wrote (now (text .entry)) (encodeOf encoding (now (text .entry))) (now (out .entry)) (now (out .exit)) r ⌝ }
+// Escapes a text for HTML; with escaping off only NUL is replaced.
+pub fn escape(text: &[u8], escaping: Escaping, out: &mut [u8]) -> Written
+    ensures { λ r. ⌜ Wrote (now (text .entry)) (encodeOf escaping (now (text .entry))) (now (out .entry)) (now (out .exit)) r ⌝ }
 {
-    call_text::escape(text, encoding, out)
+    call_text::escape(text, escaping, out)
 }
 
-// Makes a URL safe for an attribute.
-pub fn sanitize(url: &[u8], out: &mut [u8]) -> Written
-    ensures { λ r. ⌜ Wrote (now (url .entry)) (sanitizeOf (now (url .entry))) (now (out .entry)) (now (out .exit)) r ⌝ }
+// Makes a URL safe for an attribute; `'` is escaped where it is asked for.
+pub fn sanitize(url: &[u8], apostrophes: bool, out: &mut [u8]) -> Written
+    ensures { λ r. ⌜ Wrote (now (url .entry)) (sanitizeOf apostrophes (now (url .entry))) (now (out .entry)) (now (out .exit)) r ⌝ }
 {
-    call_text::sanitize(url, out)
+    call_text::sanitize(url, apostrophes, out)
 }
 
 // The same for a link: a URL with another scheme than the six of RULES R11.5 becomes empty.
-pub fn sanitize_link(url: &[u8], out: &mut [u8]) -> Written
-    ensures { λ r. ⌜ Wrote (now (url .entry)) (sanitizeWithProtocolsOf linkSchemes (now (url .entry))) (now (out .entry)) (now (out .exit)) r ⌝ }
+pub fn sanitize_link(url: &[u8], apostrophes: bool, out: &mut [u8]) -> Written
+    ensures { λ r. ⌜ Wrote (now (url .entry)) (sanitizeWithProtocolsOf apostrophes linkSchemes (now (url .entry))) (now (out .entry)) (now (out .exit)) r ⌝ }
 {
-    call_text::sanitize_link(url, out)
+    call_text::sanitize_link(url, apostrophes, out)
 }
 
 // The same for an image, whose schemes are http and https.
-pub fn sanitize_image(url: &[u8], out: &mut [u8]) -> Written
-    ensures { λ r. ⌜ Wrote (now (url .entry)) (sanitizeWithProtocolsOf imageSchemes (now (url .entry))) (now (out .entry)) (now (out .exit)) r ⌝ }
+pub fn sanitize_image(url: &[u8], apostrophes: bool, out: &mut [u8]) -> Written
+    ensures { λ r. ⌜ Wrote (now (url .entry)) (sanitizeWithProtocolsOf apostrophes imageSchemes (now (url .entry))) (now (out .entry)) (now (out .exit)) r ⌝ }
 {
-    call_text::sanitize_image(url, out)
+    call_text::sanitize_image(url, apostrophes, out)
 }
 
 // Percent-encodes a URL, and says how many characters it visited (RULES R11.7).

@@ -161,7 +161,12 @@ pub fn to_html(
     let default = options.ending;
     let ending = run_line_ending::find_ending(text, events, default);
     let names = options.names;
-    let fixed = Fixed { ending, names };
+    let apostrophes = options.escape_apostrophes;
+    let fixed = Fixed {
+        ending,
+        names,
+        apostrophes,
+    };
     let b = begin(fixed);
     compile(
         b,

@@ -1,1 +1,4 @@
 pub mod Schemes
+mod Before
+mod Encoded
+pub mod Judged

@@ -10,6 +10,8 @@ use lib.ListN.{length, take, drop, getD, drop-of-length-le}
 use Rattle.lent.specs.Bytes.{if_then_else_, bytes, oneOf, same, mapped, lower, listed}
 use Rattle.lent.specs.Fill.{Filled}
 use Rattle.lent.proofs.Laws.{next, none}
+use Rattle.encode_byte.specs.declared.Escaping.{Escaping}
+use Rattle.encode_byte.specs.Byte.{escapingOf}
 use Rattle.encode.specs.Encode.{encodeOf}
 use Rattle.normalize_uri.specs.Url.{normalizeOf}
 use Rattle.sanitize_uri.specs.declared.Colon.{Colon}
@@ -110,15 +112,15 @@ module _ (l : List ℕ) (schemes : List (List ℕ)) (c : Colon) (p : c ≡ colon
   unfolding isAllowed
   allowed-missing q = rw (← p, q)
 
-module _ (schemes : List (List ℕ)) (l : List ℕ) (x : Bool) (p : x ≡ isAllowed schemes l) where
-  pub not-allowed : {d : List ℕ} {at : ℕ} → not x ≡ true → Filled d at (sanitizeWithProtocolsOf schemes l) d at
+module _ (apostrophes : Bool) (schemes : List (List ℕ)) (l : List ℕ) (x : Bool) (p : x ≡ isAllowed schemes l) where
+  pub not-allowed : {d : List ℕ} {at : ℕ} → not x ≡ true → Filled d at (sanitizeWithProtocolsOf apostrophes schemes l) d at
   unfolding sanitizeWithProtocolsOf
   not-allowed {d} {at} q = rw (← p, not-true x q) (none d at)
 
-  pub is-allowed : not x ≡ false → sanitizeWithProtocolsOf schemes l ≡ sanitizeOf l
+  pub is-allowed : not x ≡ false → sanitizeWithProtocolsOf apostrophes schemes l ≡ sanitizeOf apostrophes l
   unfolding sanitizeWithProtocolsOf
   is-allowed q = rw (← p, not-false x q)
 
-pub sanitized : (l : List ℕ) → sanitizeOf l ≡ encodeOf true (normalizeOf l)
+pub sanitized : (apostrophes : Bool) (l : List ℕ) {on : Escaping} → on ≡ escapingOf true apostrophes → sanitizeOf apostrophes l ≡ encodeOf on (normalizeOf l)
 unfolding sanitizeOf
-sanitized l = refl
+sanitized apostrophes l p = rw p

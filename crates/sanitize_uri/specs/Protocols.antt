@@ -40,6 +40,6 @@ allowedAt schemes url Missing = true
 unfoldable pub isAllowed : List (List ℕ) → List ℕ → Bool
 isAllowed schemes url = allowedAt schemes url (colonOf url)
 
--- the URL sanitized, or nothing
-unfoldable pub sanitizeWithProtocolsOf : List (List ℕ) → List ℕ → List ℕ
-sanitizeWithProtocolsOf schemes url = if isAllowed schemes url then sanitizeOf url else []
+-- the URL sanitized, or nothing. The URL is judged as it is given, before any byte is escaped; percent-encoded it would be judged alike (proofs/Judged.antt)
+unfoldable pub sanitizeWithProtocolsOf : (apostrophes : Bool) → List (List ℕ) → List ℕ → List ℕ
+sanitizeWithProtocolsOf apostrophes schemes url = if isAllowed schemes url then sanitizeOf apostrophes url else []

@@ -19,26 +19,28 @@ pub enum Colon {
     Missing,
 }
 
-// Appends the URL, percent-encoded and safe for an attribute.
-pub fn sanitize(value: &[u8], out: &mut [u8], at: usize) -> usize
-    ensures { λ r. ⌜ Filled (now (out .entry)) at (sanitizeOf (now (value .entry))) (now (out .exit)) r ⌝ }
+// Appends the URL, percent-encoded and safe for an attribute; `'` is escaped where it is asked for.
+pub fn sanitize(value: &[u8], apostrophes: bool, out: &mut [u8], at: usize) -> usize
+    ensures { λ r. ⌜ Filled (now (out .entry)) at (sanitizeOf apostrophes (now (value .entry))) (now (out .exit)) r ⌝ }
 {
-    normalize_uri::put_url(value, true, out, at)
+    let escaping = encode_byte::escaping_of(true, apostrophes);
+    normalize_uri::put_url(value, escaping, out, at)
 }
 
 // The same, or nothing where the URL has a scheme that is not listed.
 pub fn sanitize_with_protocols(
     value: &[u8],
     protocols: Protocols,
+    apostrophes: bool,
     out: &mut [u8],
     at: usize,
 ) -> usize
-    ensures { λ r. ⌜ Filled (now (out .entry)) at (sanitizeWithProtocolsOf (schemesOf protocols) (now (value .entry))) (now (out .exit)) r ⌝ }
+    ensures { λ r. ⌜ Filled (now (out .entry)) at (sanitizeWithProtocolsOf apostrophes (schemesOf protocols) (now (value .entry))) (now (out .exit)) r ⌝ }
 {
     if !is_allowed(value, protocols) {
         return at;
     }
-    sanitize(value, out, at)
+    sanitize(value, apostrophes, out, at)
 }
 
 fn is_allowed(value: &[u8], protocols: Protocols) -> bool

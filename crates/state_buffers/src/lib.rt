@@ -7,6 +7,7 @@ ghost use Rattle.lent.specs.Fill.{Filled};
 ghost use Rattle.machine.specs.Buffers.{push, endLine, endingBytes, isEol, openCapture};
 ghost use Rattle.state_buffers.specs.Stand.{Keeps, KeepsBy, endLineBy, Opens, Drops};
 ghost use Rattle.state_buffers.specs.Private.{endsLine, atLineStart, needless};
+use encode_byte::Escaping;
 use machine::Ending;
 
 // The newest capture is the bytes from `start` up to `end`.
@@ -38,16 +39,16 @@ pub fn push_encoded(
     captures: &mut [u8],
     out: &mut [u8],
     s: &[u8],
-    encoding: bool,
+    escaping: Escaping,
 ) -> Buffers
-    ensures { λ r. ⌜ Keeps (push (encodeOf encoding (now (s .entry)))) b (now (captures .entry)) (now (out .entry)) r (now (captures .exit)) (now (out .exit)) ⌝ }
+    ensures { λ r. ⌜ Keeps (push (encodeOf escaping (now (s .entry)))) b (now (captures .entry)) (now (out .entry)) r (now (captures .exit)) (now (out .exit)) ⌝ }
 {
     let mut r = b;
     if b.depth == 0 {
-        r.page = encode::encode(s, encoding, out, b.page);
+        r.page = encode::encode(s, escaping, out, b.page);
         return r;
     }
-    r.end = encode::encode(s, encoding, captures, b.end);
+    r.end = encode::encode(s, escaping, captures, b.end);
     r
 }
 

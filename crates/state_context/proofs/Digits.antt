@@ -24,7 +24,7 @@ other {k} j h p = p .others j (eqb-false j k h)
 
 -- what never changes stands behind all that does
 still-fixed : {k x w r : ℕ} → k < 9 → Placed k x w r → fixedIn r ≡ fixedIn w
-still-fixed h p = rw (p .others 9 (λ e. omega arith), p .others 10 (λ e. omega arith))
+still-fixed h p = rw (p .others 9 (λ e. omega arith), p .others 10 (λ e. omega arith), p .others 11 (λ e. omega arith))
 
 -- ---- flags
 

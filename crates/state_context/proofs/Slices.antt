@@ -11,14 +11,14 @@ use Prim.Native.String.{String}
 use Rattle.lent.specs.Bytes.{if_then_else_, bytes}
 use Rattle.lent.proofs.Laws.{and-left, and-right}
 use Rattle.utf8.specs.Utf8.{isUtf8}
+use Rattle.encode_byte.specs.declared.Escaping.{Escaping}
 use Rattle.encode.specs.Encode.{encodeOf}
 use Rattle.event.specs.declared.Event.{Event}
 use Rattle.machine.specs.State.{State}
 use Rattle.machine.specs.Outcome.{stop, go, _>>=_}
-use Rattle.machine.specs.Set.{encode, setCaptures}
-use Rattle.machine.specs.Buffers.{push, pushEncoded, openCapture, takeCapture}
+use Rattle.machine.specs.Set.{setCaptures}
+use Rattle.machine.specs.Buffers.{push, escapingNow, pushEncoded, openCapture, takeCapture}
 use Rattle.machine.specs.Turn.{Turn, spanOf, sliceOf, asStr, strOf, ownStr}
-use Rattle.machine.specs.Test as Test
 use Rattle.machine.specs.Words as Words
 use Rattle.machine.specs.Command.{Command, _▸_, exec}
 use Rattle.machine.specs.Words.{slice, buffer}
@@ -29,9 +29,9 @@ use Rattle.state_buffers.specs.Stand.{Stand}
 use Rattle.machine_bounded.specs.Within.{one, within}
 use Rattle.machine_bounded.proofs.Bounds.{done, fits}
 use Rattle.state_context.specs.declared.Context.{Context}
-use Rattle.state_context.specs.Rel.{Rel, Any, Sees, Keeps, Takes, Opens, Begins, Ends, Tells}
+use Rattle.state_context.specs.Rel.{Rel, Any, Sees, Keeps, Takes, Opens, Begins, Ends, escapingIn}
 use Rattle.state_context.proofs.Laws.{withBuffers, rel-buffers, pushed}
-use Rattle.state_context.proofs.Commands.{flag-told}
+use Rattle.state_context.proofs.Constants.{escaping-told}
 
 -- ---- the event's slice
 
@@ -64,7 +64,7 @@ sliced text e b p =
     }
 
 abbrev encoded : Turn → State → List ℕ → List ℕ
-encoded t s b = encodeOf (s .flags .encode) b
+encoded t s b = encodeOf (escapingNow s) b
 
 is-slice : (t : Turn) (s : State) → within slice t s ≡ one true (ownStr t >>= λ b. go (push (encoded t s b) s))
 unfolding exec within
@@ -91,12 +91,12 @@ module _ (text : List ℕ) (e : Event) where
     pub owned-out : {c : Context} {w o : List ℕ} → length text < e .to .0 → Keeps (Sees text e) d c w o c w o
     owned-out h = nowhere (λ b k. omega (arith, k .inside))
 
-    pub owned-pushes : {c : Context} {w o : List ℕ} {y : Bool} → Tells Any (Test.is encode) c y → (g : List ℕ) → ((t : Turn) (s : State) → Sees text e t → s .flags .encode ≡ y → g ≡ f t s (take (e .to .0 - e .from .0) (drop (e .from .0) text))) → {x : Buffers} {w′ o′ : List ℕ} → Stand.Keeps (push g) (c .buffers) w o x w′ o′
+    pub owned-pushes : {c : Context} {w o : List ℕ} {y : Escaping} → y ≡ escapingIn (c .word) → (g : List ℕ) → ((t : Turn) (s : State) → Sees text e t → escapingNow s ≡ y → g ≡ f t s (take (e .to .0 - e .from .0) (drop (e .from .0) text))) → {x : Buffers} {w′ o′ : List ℕ} → Stand.Keeps (push g) (c .buffers) w o x w′ o′
         → Keeps (Sees text e) d c w o (withBuffers x c) w′ o′
     owned-pushes a g i k = record {
       keeps = λ t b s u v y p.
           let q = owned t s u v p in
-          let j : g ≡ f t s (q .0) = i t s v (flag-told a t y) ∙ ap (f t s) (sym (q .1 .bytes)) in
+          let j : g ≡ f t s (q .0) = i t s v (escaping-told a y) ∙ ap (f t s) (sym (q .1 .bytes)) in
           let h : push g s ≡ u = ap (λ (l : List ℕ). push l s) j ∙ q .2 in
           rw (← h) (rel-buffers y (pushed g s) (k .keeps b s (y .stand)));
     }
@@ -108,7 +108,7 @@ module _ (text : List ℕ) (e : Event) where
     pub slice-out : length text < e .to .0 → Keeps (Sees text e) slice c w o c w o
     slice-out h = owned-out slice encoded is-slice h
 
-    pub slices : {y : Bool} {x : Buffers} {w′ o′ : List ℕ} → Tells Any (Test.is encode) c y → Stand.Keeps (push (encodeOf y (take (e .to .0 - e .from .0) (drop (e .from .0) text)))) (c .buffers) w o x w′ o′
+    pub slices : {y : Escaping} {x : Buffers} {w′ o′ : List ℕ} → y ≡ escapingIn (c .word) → Stand.Keeps (push (encodeOf y (take (e .to .0 - e .from .0) (drop (e .from .0) text)))) (c .buffers) w o x w′ o′
         → Keeps (Sees text e) slice c w o (withBuffers x c) w′ o′
     slices {y} a k = owned-pushes slice encoded is-slice a (encodeOf y (take (e .to .0 - e .from .0) (drop (e .from .0) text))) (λ t s v i. rw i) k
 

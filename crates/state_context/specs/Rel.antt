@@ -8,6 +8,8 @@ use lib.Dec.{eqb}
 use lib.ListN.{length}
 use Prim.Native.String.{String}
 use Rattle.lent.specs.Bytes.{if_then_else_, bytes}
+use Rattle.encode_byte.specs.declared.Escaping.{Escaping}
+use Rattle.encode_byte.specs.Byte.{escapingOf}
 use Rattle.event.specs.declared.Event.{Event}
 use Rattle.event.specs.Event.{named, alignmentsOf}
 use Rattle.character_reference.specs.declared.Marker.{Marker}
@@ -106,14 +108,25 @@ abbrev pub namesAt : (digit : ℕ) → Names
 namesAt zero = Html4
 namesAt (suc n) = Html5
 
+abbrev pub apostrophesAt : (digit : ℕ) → Bool
+apostrophesAt zero = false
+apostrophesAt (suc n) = true
+
 abbrev pub endingIn : (word : ℕ) → Ending
 endingIn word = endingAt (digitOf 9 word)
 
 abbrev pub namesIn : (word : ℕ) → Names
 namesIn word = namesAt (digitOf 10 word)
 
+abbrev pub apostrophesIn : (word : ℕ) → Bool
+apostrophesIn word = apostrophesAt (digitOf 11 word)
+
 abbrev pub fixedIn : (word : ℕ) → Fixed
-fixedIn word = record { ending = endingIn word; names = namesIn word }
+fixedIn word = record { ending = endingIn word; names = namesIn word; apostrophes = apostrophesIn word }
+
+-- how what is pushed is escaped: by the flag and the choice together
+abbrev pub escapingIn : (word : ℕ) → Escaping
+escapingIn word = escapingOf (isOn word encode) (apostrophesIn word)
 
 -- ---- the table, and all together
 

@@ -5,10 +5,11 @@ ghost use Prim.Native.Nat.{_<_};
 ghost use Rattle.machine.specs.Set.{slurp, encode, raw, alt, head};
 ghost use Rattle.machine.specs.Test.{is, isTight, isInContainer, hasRank, hasSeenData, isFirstFence, isFencedOnce, isFenceMissing, isFirstMarker};
 ghost use Rattle.machine.specs.Words.{slice, buffer, drop, lineEnding, lineEndingIfNeeded, set, openContainer, closeContainer, marker, forgetRank, fences, countFence, seenData, first};
-ghost use Rattle.state_context.specs.Rel.{Any, Sees, Keeps, Begins, Ends, Pushes, PushesTag, Begun, Sets, Tells, Ranks, MarkIs, ForgetsMarker, answerOf, answerDigit, markDigit, endingAt, namesAt, endingIn, namesIn, fixedIn};
+ghost use Rattle.state_context.specs.Rel.{Any, Sees, Keeps, Begins, Ends, Pushes, PushesTag, Begun, Sets, Tells, Ranks, MarkIs, ForgetsMarker, answerOf, answerDigit, markDigit, endingAt, namesAt, apostrophesAt, endingIn, namesIn, apostrophesIn, fixedIn, escapingIn};
 ghost use Rattle.state_context.specs.Private.{Digit, SetsFlag, TellsFlag, Starts};
 use character_reference::Marker;
 use character_reference::Names;
+use encode_byte::Escaping;
 use event::Event;
 use machine::Ending;
 use machine::Fixed;
@@ -76,6 +77,8 @@ const ENDING: usize = 9;
 
 const NAMES: usize = 10;
 
+const APOSTROPHES: usize = 11;
+
 // HTML is encoded, and no other flag or answer is set.
 const AT_START: u64 = 4;
 
@@ -98,15 +101,24 @@ fn names_digit(x: Names) -> u64
     }
 }
 
+fn apostrophes_digit(x: bool) -> u64
+    ensures { λ r. ⌜ (r < 4) × (apostrophesAt r ≡ x) ⌝ }
+{
+    if x { 1 } else { 0 }
+}
+
 fn first_word(fixed: Fixed) -> u64
     ensures { λ r. ⌜ Starts fixed r ⌝ }
 {
     let ending = fixed.ending;
     let names = fixed.names;
+    let apostrophes = fixed.apostrophes;
     let e = ending_digit(ending);
     let n = names_digit(names);
+    let a = apostrophes_digit(apostrophes);
     let w = packed::with_digit(AT_START, ENDING, e);
-    packed::with_digit(w, NAMES, n)
+    let v = packed::with_digit(w, NAMES, n);
+    packed::with_digit(v, APOSTROPHES, a)
 }
 
 // Before the first event.
@@ -159,12 +171,35 @@ pub fn names_in(c: Context) -> Names
     Names::Html5
 }
 
+pub fn apostrophes_in(c: Context) -> bool
+    ensures { λ r. ⌜ r ≡ apostrophesIn (c .word) ⌝ }
+{
+    if packed::digit(c.word, APOSTROPHES) == 0 {
+        return false;
+    }
+    true
+}
+
 pub fn fixed_in(c: Context) -> Fixed
     ensures { λ r. ⌜ r ≡ fixedIn (c .word) ⌝ }
 {
     let ending = ending_in(c);
     let names = names_in(c);
-    Fixed { ending, names }
+    let apostrophes = apostrophes_in(c);
+    Fixed {
+        ending,
+        names,
+        apostrophes,
+    }
+}
+
+// How what is pushed is escaped: by the flag and what the build wants, together.
+pub fn escaping_in(c: Context) -> Escaping
+    ensures { λ r. ⌜ r ≡ escapingIn (c .word) ⌝ }
+{
+    let html = packed::digit(c.word, ENCODE) != 0;
+    let apostrophes = apostrophes_in(c);
+    encode_byte::escaping_of(html, apostrophes)
 }
 
 // ---- writing
@@ -219,8 +254,8 @@ pub fn push_slice(c: Context, text: &[u8], e: Event, captures: &mut [u8], out: &
         return c;
     }
     let mut r = c;
-    let encoding = encodes(c);
-    r.buffers = state_buffers::push_encoded(c.buffers, captures, out, &text[from..to], encoding);
+    let escaping = escaping_in(c);
+    r.buffers = state_buffers::push_encoded(c.buffers, captures, out, &text[from..to], escaping);
     r
 }
 
@@ -285,13 +320,7 @@ pub fn set_slurp(c: Context, x: bool) -> Context
     with_flag(c, SLURP, x)
 }
 
-// Whether HTML is encoded.
-pub fn encodes(c: Context) -> bool
-    ensures { λ r. ⌜ Tells Any (is encode) c r ⌝ }
-{
-    has_flag(c, ENCODE)
-}
-
+// Whether HTML is encoded: `escaping_in` says how.
 pub fn set_encode(c: Context, x: bool) -> Context
     ensures { λ r. ⌜ Sets (set encode x) c r ⌝ }
 {

@@ -1,22 +1,23 @@
 -- What the code of `url_byte` goes by. Assumes nothing.
 use mathlib.Core.Path.{_≡_, refl, sym, ap, _∙_}
-use mathlib.Core.Bool.{Bool, true, false, not, _&&_}
+use mathlib.Core.Bool.{Bool, true, false, not, _&&_, _||_}
 use mathlib.Core.Logic.{_⊎_, inl, inr}
 use mathlib.Core.List.{List, [], _∷_, append-nil}
 use Prim.Native.Nat.{ℕ, _+_, _-_, _/_, _%_, _≤_, _<_}
 use native.Mathlib.Decide.{decLt, ℕ-discrete}
 use native.Mathlib.Omega.{arith}
-use borrow.Author.Tests.{leb-true, le-leb, lt-leb, lt-ltb, le-ltb, ne-eqb, not-true, not-false}
-use lib.Dec.{leb}
+use borrow.Author.Tests.{leb-true, le-leb, lt-leb, lt-ltb, le-ltb, eqb-true, ne-eqb, eqb-false, not-true, not-false}
+use lib.Dec.{eqb, leb}
 use lib.ListN.{length, drop, getD, set, length-drop, length-set}
 use mir.Syntax.{w8}
 use mir.Val.{Fits}
 use Rattle.lent.specs.Bytes.{hasBit, isAlnum, between}
 use Rattle.lent.specs.Fill.{Filled}
 use Rattle.lent.proofs.Computed.{agree}
-use Rattle.lent.proofs.Laws.{next, both, put-in, and-left, and-right}
+use Rattle.lent.proofs.Laws.{next, both, put-in, and-left, and-right, or-left, or-right}
+use Rattle.encode_byte.specs.declared.Escaping.{Escaping}
 use Rattle.encode_byte.specs.Byte.{encodeByte}
-use Rattle.encode_byte.proofs.Laws.{kept, off}
+use Rattle.encode_byte.proofs.Laws.{kept}
 use Rattle.encode.specs.Encode.{encodeOf}
 use Rattle.url_byte.specs.Byte.{isKept, twoAlnum, stays, hexUpper, percent, urlByte}
 use Rattle.url_byte.specs.Private.{byteOf, keptMask}
@@ -64,19 +65,19 @@ pub percent-put : {d e f g : List ℕ} {at m n r : ℕ} (b x y : ℕ) → x ≡ 
 unfolding percent
 percent-put b x y p q h₁ h₂ h₃ = rw (← p, ← q) (both h₁ (both h₂ h₃))
 
-digit : (on : Bool) (n : ℕ) → n < 16 → encodeByte on (hexUpper n) ≡ hexUpper n ∷ []
+digit : (on : Escaping) (n : ℕ) → n < 16 → encodeByte on (hexUpper n) ≡ hexUpper n ∷ []
 digit on n h =
     elim (decLt n 10) [
-      | yes k ↦ rw (← hex-low n k) (kept on (48 + n) (omega arith) (omega arith) (omega arith) (omega arith) (omega arith))
+      | yes k ↦ rw (← hex-low n k) (kept on (48 + n) (omega arith) (omega arith) (omega arith) (omega arith) (omega arith) (omega arith))
       | no k ↦
           let k′ : 10 ≤ n = omega arith in
-          rw (← hex-high n k′) (kept on (55 + n) (omega arith) (omega arith) (omega arith) (omega arith) (omega arith))
+          rw (← hex-high n k′) (kept on (55 + n) (omega arith) (omega arith) (omega arith) (omega arith) (omega arith) (omega arith))
     ]
 
-encode-percent : (on : Bool) (b : ℕ) → b < 256 → encodeOf on (percent b) ≡ percent b
+encode-percent : (on : Escaping) (b : ℕ) → b < 256 → encodeOf on (percent b) ≡ percent b
 unfolding percent encodeOf
 encode-percent on b h =
-    rw (digit on (b / 16) (omega arith), digit on (b % 16) (omega arith), kept on 37 (omega arith) (omega arith) (omega arith) (omega arith) (omega arith))
+    rw (digit on (b / 16) (omega arith), digit on (b % 16) (omega arith), kept on 37 (omega arith) (omega arith) (omega arith) (omega arith) (omega arith) (omega arith))
 
 pub unlike : (b k : ℕ) → isKept b ≡ true → isKept k ≡ false → b ≡ k → ⊥
 unlike b k p q e = let z : _≡_ {A = ℕ} 0 1 = cc (ap isKept e) in omega arith
@@ -90,12 +91,12 @@ stays-case b bs p =
       | no n ↦ inr (rw (ne-eqb b 37 n) at p)
     ]
 
--- one that stays, and is no &, HTML leaves alone
-pub left-alone : (on : Bool) (b : ℕ) → (b ≡ 37) ⊎ (isKept b ≡ true) → (b ≡ 38 → ⊥) → encodeByte on b ≡ b ∷ []
-left-alone on b (inl e) n = kept on b (omega arith) (omega arith) (omega arith) (omega arith) (omega arith)
-left-alone on b (inr k) n = kept on b (unlike b 0 k refl) n (unlike b 60 k refl) (unlike b 62 k refl) (unlike b 34 k refl)
+-- one that stays, and is no & or ', HTML leaves alone
+pub left-alone : (on : Escaping) (b : ℕ) → (b ≡ 37) ⊎ (isKept b ≡ true) → (b ≡ 38 → ⊥) → (b ≡ 39 → ⊥) → encodeByte on b ≡ b ∷ []
+left-alone on b (inl e) n t = kept on b (omega arith) (omega arith) (omega arith) (omega arith) (omega arith) (omega arith)
+left-alone on b (inr k) n t = kept on b (unlike b 0 k refl) n (unlike b 60 k refl) (unlike b 62 k refl) (unlike b 34 k refl) t
 
-module _ (on : Bool) (l : List ℕ) (i : ℕ) (x : Bool) (h : i < length l) (p : x ≡ stays (drop i l)) where
+module _ (on : Escaping) (l : List ℕ) (i : ℕ) (x : Bool) (h : i < length l) (p : x ≡ stays (drop i l)) where
   pub percent-byte : Fits w8 (getD l i 0) → not x ≡ true → encodeOf on (byteOf (drop i l)) ≡ percent (getD l i 0)
   unfolding byteOf urlByte
   percent-byte f q =
@@ -106,20 +107,15 @@ module _ (on : Bool) (l : List ℕ) (i : ℕ) (x : Bool) (h : i < length l) (p :
     staying : stays (getD l i 0 ∷ drop (i + 1) l) ≡ true
     staying = rw (next l i h) at (sym p ∙ not-false x q)
 
-    pub amp-byte : getD l i 0 ≡ 38 → encodeOf on (byteOf (drop i l)) ≡ encodeByte on 38
+    pub quoted-byte : encodeOf on (byteOf (drop i l)) ≡ encodeByte on (getD l i 0)
     unfolding byteOf urlByte encodeOf
-    amp-byte e = rw (next l i h, staying, e) (append-nil (encodeByte on 38))
+    quoted-byte = rw (next l i h, staying) (append-nil (encodeByte on (getD l i 0)))
 
-    pub kept-byte : (getD l i 0 ≡ 38 → ⊥) → encodeOf on (byteOf (drop i l)) ≡ getD l i 0 ∷ []
-    unfolding byteOf urlByte encodeOf
-    kept-byte n = rw (next l i h, staying, left-alone on (getD l i 0) (stays-case (getD l i 0) (drop (i + 1) l) staying) n)
-
-module _ (on : Bool) where
-  pub amp-on : on ≡ true → encodeByte on 38 ≡ encodeByte true 38
-  amp-on p = rw p
-
-  pub amp-off : on ≡ false → encodeByte on 38 ≡ 38 ∷ []
-  amp-off p = rw p (off 38 (omega arith))
+    pub kept-byte : (eqb (getD l i 0) 38 || eqb (getD l i 0) 39) ≡ false → encodeOf on (byteOf (drop i l)) ≡ getD l i 0 ∷ []
+    kept-byte n =
+        let b = getD l i 0 in
+        let k = left-alone on b (stays-case b (drop (i + 1) l) staying) (eqb-false b 38 (or-left (eqb b 38) (eqb b 39) n)) (eqb-false b 39 (or-right (eqb b 38) (eqb b 39) n)) in
+        quoted-byte ∙ k
 
 -- three bytes at once, where there is room
 pub percent-in : (d : List ℕ) (at b x y : ℕ) → x ≡ hexUpper (b / 16) → y ≡ hexUpper (b % 16) → 3 ≤ length d - at
@@ -132,18 +128,20 @@ percent-in d at b x y p q h =
     percent-put b x y p q (put-in d at 37 (omega arith)) (rw z at (put-in (set d at 37) (at + 1) x (omega arith))) (rw w at (put-in (set (set d at 37) (at + 1) x) (at + 2) y (omega arith)))
 
 -- a byte with a mark: &, ' or another
-module _ (on : Bool) (b : ℕ) where
-  pub marked-amp : b ≡ 38 → encodeOf on (urlByte (between 38 39 b) b) ≡ encodeByte on 38
+module _ (on : Escaping) (b : ℕ) where
+  pub marked-quoted : (eqb b 38 || eqb b 39) ≡ true → encodeOf on (urlByte (between 38 39 b) b) ≡ encodeByte on b
   unfolding urlByte encodeOf
-  marked-amp e = rw e (append-nil (encodeByte on 38))
+  marked-quoted p =
+      elim (ℕ-discrete b 38) [
+        | yes e ↦ rw e (append-nil (encodeByte on 38))
+        | no n ↦ let e : b ≡ 39 = eqb-true b 39 (rw (ne-eqb b 38 n) at p) in rw e (append-nil (encodeByte on 39))
+      ]
 
-  pub marked-quote : b ≡ 39 → encodeOf on (urlByte (between 38 39 b) b) ≡ b ∷ []
-  unfolding urlByte encodeOf
-  marked-quote e = rw (e, kept on 39 (omega arith) (omega arith) (omega arith) (omega arith) (omega arith))
-
-  pub marked-other : Fits w8 b → (b ≡ 38 → ⊥) → (b ≡ 39 → ⊥) → encodeOf on (urlByte (between 38 39 b) b) ≡ percent b
+  pub marked-other : Fits w8 b → (eqb b 38 || eqb b 39) ≡ false → encodeOf on (urlByte (between 38 39 b) b) ≡ percent b
   unfolding urlByte
-  marked-other f m n =
+  marked-other f p =
+      let m = eqb-false b 38 (or-left (eqb b 38) (eqb b 39) p) in
+      let n = eqb-false b 39 (or-right (eqb b 38) (eqb b 39) p) in
       elim (decLt b 38) [
         | yes h ↦ rw (lt-leb 38 b h) (encode-percent on b (f .fits))
         | no h ↦

@@ -11,6 +11,7 @@ use lib.Dec.{leb, eqb}
 use lib.ListN.{getD}
 use Rattle.lent.specs.Bytes.{if_then_else_, isAlnum, between}
 use Rattle.lent.proofs.Laws.{and-left, and-right, or-left, or-right}
+use Rattle.encode_byte.specs.declared.Escaping.{Escaping}
 use Rattle.encode.specs.Encode.{encodeOf}
 use Rattle.url_byte.specs.Byte.{isKept, twoAlnum, stays, urlByte}
 use Rattle.url_byte.specs.Private.{byteOf, isApart, markOf}
@@ -70,6 +71,9 @@ still-kept b p = widen (eqb b 61) (between 63 90 b) (eqb b 95) (between 97 122 b
 pub still-other : (b : ℕ) → isApart b ≡ false → b ≡ 38 → ⊥
 still-other b p e = let z : _≡_ {A = ℕ} 0 1 = cc (ap isApart e) in omega arith
 
+pub still-another : (b : ℕ) → isApart b ≡ false → b ≡ 39 → ⊥
+still-another b p e = let z : _≡_ {A = ℕ} 0 1 = cc (ap isApart e) in omega arith
+
 apart-kept : (b : ℕ) → isApart b ≡ true → between 38 39 b ≡ false → isKept b ≡ false
 apart-kept b p q = narrowed (eqb b 61) (between 63 90 b) (eqb b 95) (between 97 122 b) (eqb b 126) (eqb b 33) (eqb b 35) (eqb b 36) (between 40 59 b) (between 38 59 b) (high-end b q) (not-true _ p)
 
@@ -92,10 +96,10 @@ either false t p = inl refl
 either true true p = inr refl
 either true false p = let z : _≡_ {A = ℕ} 0 1 = cc in absurd (omega arith)
 
-module _ (on : Bool) (b : ℕ) (bs : List ℕ) where
-  staying : stays (b ∷ bs) ≡ true → (b ≡ 37) ⊎ (isKept b ≡ true) → (b ≡ 38 → ⊥) → encodeOf on (byteOf (b ∷ bs)) ≡ b ∷ []
+module _ (on : Escaping) (b : ℕ) (bs : List ℕ) where
+  staying : stays (b ∷ bs) ≡ true → (b ≡ 37) ⊎ (isKept b ≡ true) → (b ≡ 38 → ⊥) → (b ≡ 39 → ⊥) → encodeOf on (byteOf (b ∷ bs)) ≡ b ∷ []
   unfolding byteOf urlByte encodeOf
-  staying p q n = rw (p, left-alone on b q n)
+  staying p q n t = rw (p, left-alone on b q n t)
 
   still : isApart b ≡ false → stays (b ∷ bs) ≡ true
   unfolding stays
@@ -111,10 +115,10 @@ module _ (on : Bool) (b : ℕ) (bs : List ℕ) where
   unfolding markOf
   moved-byte p =
       elim (either (isApart b) (eqb b 37 && (isAlnum (getD bs 0 0) && isAlnum (getD bs 1 0))) (clear _ p)) [
-        | inl q ↦ staying (still q) (inr (still-kept b q)) (still-other b q)
+        | inl q ↦ staying (still q) (inr (still-kept b q)) (still-other b q) (still-another b q)
         | inr q ↦
             let e : b ≡ 37 = eqb-true b 37 (and-left (eqb b 37) (isAlnum (getD bs 0 0) && isAlnum (getD bs 1 0)) q) in
-            staying (triple q) (inl e) (λ n. omega arith)
+            staying (triple q) (inl e) (λ n. omega arith) (λ n. omega arith)
       ]
 
   kept-by : isApart b ≡ true → (x : Bool) → between 38 39 b ≡ x → isKept b ≡ x

@@ -4,46 +4,34 @@ ghost use mathlib.Core.Path.{_≡_};
 ghost use lib.ListN.{length, drop};
 ghost use Rattle.lent.specs.Bytes.{isAlnum, between};
 ghost use Rattle.lent.specs.Fill.{Filled};
-ghost use Rattle.encode_byte.specs.Byte.{encodeByte};
 ghost use Rattle.encode.specs.Encode.{encodeOf};
 ghost use Rattle.url_byte.specs.Byte.{isKept, twoAlnum, stays, hexUpper, percent, urlByte};
 ghost use Rattle.url_byte.specs.Private.{byteOf, isApart, markOf, keptMask};
+use encode_byte::Escaping;
 
-// The byte at `i`. Of those that stay HTML encodes only `&`.
-pub fn put_url_byte(value: &[u8], i: usize, encode_html: bool, out: &mut [u8], at: usize) -> usize
+// The byte at `i`. Of those that stay HTML encodes only `&` and `'`.
+pub fn put_url_byte(value: &[u8], i: usize, escaping: Escaping, out: &mut [u8], at: usize) -> usize
     requires { ⌜ i < length (now value) ⌝ }
-    ensures { λ r. ⌜ Filled (now (out .entry)) at (encodeOf «encode_html» (byteOf (drop i (now (value .entry))))) (now (out .exit)) r ⌝ }
+    ensures { λ r. ⌜ Filled (now (out .entry)) at (encodeOf escaping (byteOf (drop i (now (value .entry))))) (now (out .exit)) r ⌝ }
 {
     let b = value[i];
     if !is_staying(value, i) {
         return put_percent(b, out, at);
     }
-    if b == b'&' {
-        return put_ampersand(encode_html, out, at);
+    if (b == b'&') | (b == b'\'') {
+        return encode_byte::put_byte(b, escaping, out, at);
     }
     lent::put(out, at, b)
 }
 
 // A byte with a mark: of these only `&` and `'` stay.
-pub fn put_marked_byte(b: u8, encode_html: bool, out: &mut [u8], at: usize) -> usize
-    ensures { λ r. ⌜ Filled (now (out .entry)) at (encodeOf «encode_html» (urlByte (between 38 39 b) b)) (now (out .exit)) r ⌝ }
+pub fn put_marked_byte(b: u8, escaping: Escaping, out: &mut [u8], at: usize) -> usize
+    ensures { λ r. ⌜ Filled (now (out .entry)) at (encodeOf escaping (urlByte (between 38 39 b) b)) (now (out .exit)) r ⌝ }
 {
-    if b == b'&' {
-        return put_ampersand(encode_html, out, at);
-    }
-    if b == b'\'' {
-        return lent::put(out, at, b);
+    if (b == b'&') | (b == b'\'') {
+        return encode_byte::put_byte(b, escaping, out, at);
     }
     put_percent(b, out, at)
-}
-
-fn put_ampersand(encode_html: bool, out: &mut [u8], at: usize) -> usize
-    ensures { λ r. ⌜ Filled (now (out .entry)) at (encodeByte «encode_html» 38) (now (out .exit)) r ⌝ }
-{
-    if encode_html {
-        return encode_byte::put_reference(b'&', out, at);
-    }
-    lent::put(out, at, b'&')
 }
 
 // Appends `%XX`.

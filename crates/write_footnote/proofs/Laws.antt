@@ -8,7 +8,8 @@ use lib.ListN.{getD}
 use Rattle.lent.specs.Bytes.{each, lower, mapped, isAlnum}
 use Rattle.lent.specs.Fill.{Filled}
 use Rattle.lent.proofs.Laws.{each-append}
-use Rattle.encode_byte.specs.Byte.{encodeByte}
+use Rattle.encode_byte.specs.declared.Escaping.{Escaping}
+use Rattle.encode_byte.specs.Byte.{escapingOf, encodeByte}
 use Rattle.encode.specs.Encode.{encodeOf}
 use Rattle.url_byte.specs.Byte.{isKept, twoAlnum, stays, urlByte}
 use Rattle.url_byte.specs.Private.{byteOf}
@@ -24,37 +25,37 @@ use Rattle.machine.specs.Footnote.{addressOf}
 -- ---- the walk
 
 -- what is left to write at a cursor
-abbrev pub addressAt : List ℕ → Cursor → List ℕ
-addressAt label c = sanitizeOf (mapped lower (leftAt label c))
+abbrev pub addressAt : Bool → List ℕ → Cursor → List ℕ
+addressAt apostrophes label c = sanitizeOf apostrophes (mapped lower (leftAt label c))
 
 -- what one byte of an identity becomes, before those that follow
-abbrev pub written : ℕ → List ℕ → List ℕ
-written b bs = encodeOf true (byteOf (mapped lower (b ∷ bs)))
+abbrev pub written : Bool → ℕ → List ℕ → List ℕ
+written apostrophes b bs = encodeOf (escapingOf true apostrophes) (byteOf (mapped lower (b ∷ bs)))
 
-pub address-start : (label : List ℕ) → addressAt label atStart ≡ addressOf label
+pub address-start : (apostrophes : Bool) (label : List ℕ) → addressAt apostrophes label atStart ≡ addressOf apostrophes label
 unfolding addressOf
-address-start label = rw (left-start label refl)
+address-start apostrophes label = rw (left-start label refl)
 
-sanitize-more : (b : ℕ) (bs : List ℕ) → sanitizeOf (b ∷ bs) ≡ encodeOf true (byteOf (b ∷ bs)) ++ sanitizeOf bs
+sanitize-more : (apostrophes : Bool) (b : ℕ) (bs : List ℕ) → sanitizeOf apostrophes (b ∷ bs) ≡ encodeOf (escapingOf true apostrophes) (byteOf (b ∷ bs)) ++ sanitizeOf apostrophes bs
 unfolding sanitizeOf normalizeOf encodeOf byteOf
-sanitize-more b bs = each-append (encodeByte true) (urlByte (stays (b ∷ bs)) b) (normalizeOf bs)
+sanitize-more apostrophes b bs = each-append (encodeByte (escapingOf true apostrophes)) (urlByte (stays (b ∷ bs)) b) (normalizeOf bs)
 
-module _ {label : List ℕ} {c : Cursor} {n : Step} (s : Spells label c n) where
-  pub address-more : {b : ℕ} {d : Cursor} → n ≡ Byte b d → addressAt label c ≡ written b (leftAt label d) ++ addressAt label d
-  address-more {b} {d} p = rw (left-more s p) (sanitize-more (lower b) (mapped lower (leftAt label d)))
+module _ (apostrophes : Bool) {label : List ℕ} {c : Cursor} {n : Step} (s : Spells label c n) where
+  pub address-more : {b : ℕ} {d : Cursor} → n ≡ Byte b d → addressAt apostrophes label c ≡ written apostrophes b (leftAt label d) ++ addressAt apostrophes label d
+  address-more {b} {d} p = rw (left-more s p) (sanitize-more apostrophes (lower b) (mapped lower (leftAt label d)))
 
-  pub address-end : n ≡ End → addressAt label c ≡ []
+  pub address-end : n ≡ End → addressAt apostrophes label c ≡ []
   unfolding sanitizeOf normalizeOf encodeOf
   address-end p = rw (left-end s p)
 
 -- ---- one byte
 
-module _ {l : ℕ} (b : ℕ) (bs : List ℕ) (q : l ≡ lower b) where
-  pub of-sign : l ≡ 37 → written b bs ≡ encodeOf true (byteOf (37 ∷ mapped lower bs))
+module _ (apostrophes : Bool) {l : ℕ} (b : ℕ) (bs : List ℕ) (q : l ≡ lower b) where
+  pub of-sign : l ≡ 37 → written apostrophes b bs ≡ encodeOf (escapingOf true apostrophes) (byteOf (37 ∷ mapped lower bs))
   of-sign p = rw (← q, p)
 
   -- any other than a % does not look on
-  pub of-other : (l ≡ 37 → ⊥) → written b bs ≡ encodeOf true (byteOf (l ∷ 0 ∷ 0 ∷ []))
+  pub of-other : (l ≡ 37 → ⊥) → written apostrophes b bs ≡ encodeOf (escapingOf true apostrophes) (byteOf (l ∷ 0 ∷ 0 ∷ []))
   unfolding byteOf stays
   of-other n = rw (← q, ne-eqb l 37 n)
 
@@ -65,15 +66,15 @@ two-ahead a (b ∷ bs) = refl
 
 module _ {label : List ℕ} {c : Cursor} {n : Step} (s : Spells label c n) where
   -- a % that ends an identity
-  pub sign-last : n ≡ End → encodeOf true (byteOf (37 ∷ mapped lower (leftAt label c))) ≡ encodeOf true (byteOf (37 ∷ 0 ∷ 0 ∷ []))
+  pub sign-last : (on : Escaping) → n ≡ End → encodeOf on (byteOf (37 ∷ mapped lower (leftAt label c))) ≡ encodeOf on (byteOf (37 ∷ 0 ∷ 0 ∷ []))
   unfolding byteOf stays twoAlnum
-  sign-last p = rw (left-end s p)
+  sign-last on p = rw (left-end s p)
 
   -- and one with a byte behind it, and perhaps a second
-  pub sign-more : {b x y : ℕ} {d : Cursor} → n ≡ Byte b d → x ≡ lower b → y ≡ lower (getD (leftAt label d) 0 0)
-      → encodeOf true (byteOf (37 ∷ mapped lower (leftAt label c))) ≡ encodeOf true (byteOf (37 ∷ x ∷ y ∷ []))
+  pub sign-more : (on : Escaping) {b x y : ℕ} {d : Cursor} → n ≡ Byte b d → x ≡ lower b → y ≡ lower (getD (leftAt label d) 0 0)
+      → encodeOf on (byteOf (37 ∷ mapped lower (leftAt label c))) ≡ encodeOf on (byteOf (37 ∷ x ∷ y ∷ []))
   unfolding byteOf stays
-  sign-more {b} {d = d} p q r = rw (left-more s p, q, r, two-ahead (lower b) (leftAt label d))
+  sign-more on {b} {d = d} p q r = rw (left-more s p, q, r, two-ahead (lower b) (leftAt label d))
 
   pub byte-there : {b x : ℕ} {d : Cursor} → n ≡ Byte b d → x ≡ lower b → x ≡ lower (getD (leftAt label c) 0 0)
   byte-there p q = rw (left-more s p) q

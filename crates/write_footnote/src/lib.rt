@@ -5,6 +5,7 @@ ghost use mathlib.Core.Path.{_≡_};
 ghost use lib.ListN.{getD, length, take, drop};
 ghost use Rattle.lent.specs.Bytes.{lower, mapped, bytes, same};
 ghost use Rattle.lent.specs.Fill.{Filled};
+ghost use Rattle.encode_byte.specs.Byte.{escapingOf};
 ghost use Rattle.encode.specs.Encode.{encodeOf};
 ghost use Rattle.url_byte.specs.Private.{byteOf};
 ghost use Rattle.normalize_identifier.specs.Identity.{leftAt};
@@ -21,8 +22,8 @@ use state_buffers::Buffers;
 // ---- the address: the label's identity, lower-cased and sanitized, read off the label byte by byte
 
 // Appends the address of a label. Nothing is kept of the identity, however long it is.
-pub fn put_address(label: &[u8], out: &mut [u8], at: usize) -> usize
-    ensures { λ r. ⌜ Filled (now (out .entry)) at (addressOf (now (label .entry))) (now (out .exit)) r ⌝ }
+pub fn put_address(label: &[u8], apostrophes: bool, out: &mut [u8], at: usize) -> usize
+    ensures { λ r. ⌜ Filled (now (out .entry)) at (addressOf apostrophes (now (label .entry))) (now (out .exit)) r ⌝ }
 {
     let mut c = Cursor {
         at: 0,
@@ -33,38 +34,39 @@ pub fn put_address(label: &[u8], out: &mut [u8], at: usize) -> usize
         let Step::Byte(b, d) = normalize_identifier::next(label, c) else {
             return end;
         };
-        end = put_byte(label, b, d, out, end);
+        end = put_byte(label, b, d, apostrophes, out, end);
         c = d;
     }
 }
 
 // The byte `b` of the identity, which goes on at `d`.
-fn put_byte(label: &[u8], b: u8, d: Cursor, out: &mut [u8], at: usize) -> usize
-    ensures { λ r. ⌜ Filled (now (out .entry)) at (encodeOf true (byteOf (mapped lower (b ∷ leftAt (now (label .entry)) d)))) (now (out .exit)) r ⌝ }
+fn put_byte(label: &[u8], b: u8, d: Cursor, apostrophes: bool, out: &mut [u8], at: usize) -> usize
+    ensures { λ r. ⌜ Filled (now (out .entry)) at (encodeOf (escapingOf true apostrophes) (byteOf (mapped lower (b ∷ leftAt (now (label .entry)) d)))) (now (out .exit)) r ⌝ }
 {
     let l = to_lower(b);
     if l == b'%' {
-        return put_sign(label, d, out, at);
+        return put_sign(label, d, apostrophes, out, at);
     }
-    put_before(l, 0, 0, out, at)
+    put_before(l, 0, 0, apostrophes, out, at)
 }
 
 // A `%`, by the two bytes behind it.
-fn put_sign(label: &[u8], d: Cursor, out: &mut [u8], at: usize) -> usize
-    ensures { λ r. ⌜ Filled (now (out .entry)) at (encodeOf true (byteOf (37 ∷ mapped lower (leftAt (now (label .entry)) d)))) (now (out .exit)) r ⌝ }
+fn put_sign(label: &[u8], d: Cursor, apostrophes: bool, out: &mut [u8], at: usize) -> usize
+    ensures { λ r. ⌜ Filled (now (out .entry)) at (encodeOf (escapingOf true apostrophes) (byteOf (37 ∷ mapped lower (leftAt (now (label .entry)) d)))) (now (out .exit)) r ⌝ }
 {
     let Step::Byte(x, e) = normalize_identifier::next(label, d) else {
-        return put_before(b'%', 0, 0, out, at);
+        return put_before(b'%', 0, 0, apostrophes, out, at);
     };
-    put_before(b'%', to_lower(x), byte_at(label, e), out, at)
+    put_before(b'%', to_lower(x), byte_at(label, e), apostrophes, out, at)
 }
 
 // The byte `b` before `x` and `y`. A zero stands for a byte that is not there: like it, it is no letter or digit.
-fn put_before(b: u8, x: u8, y: u8, out: &mut [u8], at: usize) -> usize
-    ensures { λ r. ⌜ Filled (now (out .entry)) at (encodeOf true (byteOf (b ∷ x ∷ y ∷ []))) (now (out .exit)) r ⌝ }
+fn put_before(b: u8, x: u8, y: u8, apostrophes: bool, out: &mut [u8], at: usize) -> usize
+    ensures { λ r. ⌜ Filled (now (out .entry)) at (encodeOf (escapingOf true apostrophes) (byteOf (b ∷ x ∷ y ∷ []))) (now (out .exit)) r ⌝ }
 {
     let s = [b, x, y];
-    url_byte::put_url_byte(&s, 0, true, out, at)
+    let escaping = encode_byte::escaping_of(true, apostrophes);
+    url_byte::put_url_byte(&s, 0, escaping, out, at)
 }
 
 // The next byte of the identity, lower-cased, and zero at its end.
@@ -91,49 +93,55 @@ fn to_lower(b: u8) -> u8
 
 // ---- a call
 
-// ---- a call
-
 // A call to the newest buffer.
 pub fn push_call(
     b: Buffers,
     captures: &mut [u8],
     out: &mut [u8],
     label: &[u8],
+    apostrophes: bool,
     number: usize,
     times: usize,
 ) -> Buffers
-    ensures { λ r. ⌜ Keeps (push (callText (addressOf (now (label .entry))) number times)) b (now (captures .entry)) (now (out .entry)) r (now (captures .exit)) (now (out .exit)) ⌝ }
+    ensures { λ r. ⌜ Keeps (push (callText (addressOf apostrophes (now (label .entry))) number times)) b (now (captures .entry)) (now (out .entry)) r (now (captures .exit)) (now (out .exit)) ⌝ }
 {
     let mut r = b;
     if b.depth == 0 {
-        r.page = put_call(label, number, times, out, b.page);
+        r.page = put_call(label, apostrophes, number, times, out, b.page);
         return r;
     }
-    r.end = put_call(label, number, times, captures, b.end);
+    r.end = put_call(label, apostrophes, number, times, captures, b.end);
     r
 }
 
 // Appends the call of the footnote with a number, which is called for the `times`th time.
-pub fn put_call(label: &[u8], number: usize, times: usize, out: &mut [u8], at: usize) -> usize
-    ensures { λ r. ⌜ Filled (now (out .entry)) at (callText (addressOf (now (label .entry))) number times) (now (out .exit)) r ⌝ }
+pub fn put_call(
+    label: &[u8],
+    apostrophes: bool,
+    number: usize,
+    times: usize,
+    out: &mut [u8],
+    at: usize,
+) -> usize
+    ensures { λ r. ⌜ Filled (now (out .entry)) at (callText (addressOf apostrophes (now (label .entry))) number times) (now (out .exit)) r ⌝ }
 {
-    let p = put_call_href(label, out, at);
-    let q = put_call_id(label, times, out, p);
+    let p = put_call_href(label, apostrophes, out, at);
+    let q = put_call_id(label, apostrophes, times, out, p);
     put_call_number(number, out, q)
 }
 
-fn put_call_href(label: &[u8], out: &mut [u8], at: usize) -> usize
-    ensures { λ r. ⌜ Filled (now (out .entry)) at (callHref (addressOf (now (label .entry)))) (now (out .exit)) r ⌝ }
+fn put_call_href(label: &[u8], apostrophes: bool, out: &mut [u8], at: usize) -> usize
+    ensures { λ r. ⌜ Filled (now (out .entry)) at (callHref (addressOf apostrophes (now (label .entry)))) (now (out .exit)) r ⌝ }
 {
     let p = lent::put_all(out, at, b"<sup><a href=\"#user-content-fn-");
-    put_address(label, out, p)
+    put_address(label, apostrophes, out, p)
 }
 
-fn put_call_id(label: &[u8], times: usize, out: &mut [u8], at: usize) -> usize
-    ensures { λ r. ⌜ Filled (now (out .entry)) at (callId (addressOf (now (label .entry))) times) (now (out .exit)) r ⌝ }
+fn put_call_id(label: &[u8], apostrophes: bool, times: usize, out: &mut [u8], at: usize) -> usize
+    ensures { λ r. ⌜ Filled (now (out .entry)) at (callId (addressOf apostrophes (now (label .entry))) times) (now (out .exit)) r ⌝ }
 {
     let p = lent::put_all(out, at, b"\" id=\"user-content-fnref-");
-    let q = put_address(label, out, p);
+    let q = put_address(label, apostrophes, out, p);
     put_again(times, out, q)
 }
 
@@ -169,41 +177,47 @@ fn put_again(times: usize, out: &mut [u8], at: usize) -> usize
 // ---- the way back
 
 // Appends a backreference for each call. The address is read off the label each time: it is written as often.
-pub fn put_backreferences(label: &[u8], times: usize, out: &mut [u8], at: usize) -> usize
-    ensures { λ r. ⌜ Filled (now (out .entry)) at (backreferences (addressOf (now (label .entry))) times) (now (out .exit)) r ⌝ }
+pub fn put_backreferences(
+    label: &[u8],
+    apostrophes: bool,
+    times: usize,
+    out: &mut [u8],
+    at: usize,
+) -> usize
+    ensures { λ r. ⌜ Filled (now (out .entry)) at (backreferences (addressOf apostrophes (now (label .entry))) times) (now (out .exit)) r ⌝ }
 {
     let mut r = at;
     let mut i = 0;
     while i < times {
         i += 1;
-        r = put_next(label, i, out, r);
+        r = put_next(label, apostrophes, i, out, r);
     }
     r
 }
 
 // The backreference of the nth call, with a space between two.
-fn put_next(label: &[u8], n: usize, out: &mut [u8], at: usize) -> usize
-    ensures { λ r. ⌜ Filled (now (out .entry)) at (nextReference (addressOf (now (label .entry))) n) (now (out .exit)) r ⌝ }
+fn put_next(label: &[u8], apostrophes: bool, n: usize, out: &mut [u8], at: usize) -> usize
+    ensures { λ r. ⌜ Filled (now (out .entry)) at (nextReference (addressOf apostrophes (now (label .entry))) n) (now (out .exit)) r ⌝ }
 {
     if n <= 1 {
-        return put_backreference(label, n, out, at);
+        return put_backreference(label, apostrophes, n, out, at);
     }
     let p = lent::put(out, at, b' ');
-    put_backreference(label, n, out, p)
+    put_backreference(label, apostrophes, n, out, p)
 }
 
-fn put_backreference(label: &[u8], n: usize, out: &mut [u8], at: usize) -> usize
-    ensures { λ r. ⌜ Filled (now (out .entry)) at (backreference (addressOf (now (label .entry))) n) (now (out .exit)) r ⌝ }
+fn put_backreference(label: &[u8], apostrophes: bool, n: usize, out: &mut [u8], at: usize) -> usize
+    ensures { λ r. ⌜ Filled (now (out .entry)) at (backreference (addressOf apostrophes (now (label .entry))) n) (now (out .exit)) r ⌝ }
 {
-    let p = put_back_href(label, n, out, at);
+    let p = put_back_href(label, apostrophes, n, out, at);
     put_back_end(n, out, p)
 }
 
-fn put_back_href(label: &[u8], n: usize, out: &mut [u8], at: usize) -> usize
-    ensures { λ r. ⌜ Filled (now (out .entry)) at (backHref (addressOf (now (label .entry))) n) (now (out .exit)) r ⌝ }
+fn put_back_href(label: &[u8], apostrophes: bool, n: usize, out: &mut [u8], at: usize) -> usize
+    ensures { λ r. ⌜ Filled (now (out .entry)) at (backHref (addressOf apostrophes (now (label .entry))) n) (now (out .exit)) r ⌝ }
 {
     let p = lent::put_all(out, at, b"<a href=\"#user-content-fnref-");
-    let q = put_address(label, out, p);
+    let q = put_address(label, apostrophes, out, p);
     put_again(n, out, q)
 }
 

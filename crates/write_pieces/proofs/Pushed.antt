@@ -7,6 +7,7 @@ use Prim.Native.Nat.{ℕ, zero, suc, _<_}
 use native.Mathlib.Omega.{arith}
 use lib.ListN.{length, getD, getElem?}
 use Rattle.lent.specs.Bytes.{bytes}
+use Rattle.encode_byte.specs.declared.Escaping.{Escaping}
 use Rattle.encode.specs.Encode.{encodeOf}
 use Rattle.sanitize_uri.specs.Url.{sanitizeOf}
 use Rattle.character_reference.specs.declared.Marker.{Marker}
@@ -29,12 +30,12 @@ there (x ∷ l) zero a p = (omega arith, cc)
 there (x ∷ l) (suc i) a p = let h = there l i a p in (omega arith, h .1)
 
 module _ {b r : Buffers} {captures out captures′ out′ : List ℕ} where
-  pub pushed-mail : (s : List ℕ) → Keeps (push (sanitizeOf (bytes "mailto:" ++ s))) b captures out r captures′ out′ → PushesMail s b captures out r captures′ out′
-  pushed-mail s k = record { pushes = λ o. (rw (mail-url o s) k) }
+  pub pushed-mail : (apostrophes : Bool) (s : List ℕ) → Keeps (push (sanitizeOf apostrophes (bytes "mailto:" ++ s))) b captures out r captures′ out′ → PushesMail apostrophes s b captures out r captures′ out′
+  pushed-mail apostrophes s k = record { pushes = λ o p. (rw (mail-url o s, p) k) }
 
-  pub pushed-reference : (names : Names) (m : Marker) (s : List ℕ) (encoding : Bool) → Keeps (push (encodeOf encoding (orNothing (referenceFor names m s)))) b captures out r captures′ out′
-      → PushesReference names m s encoding b captures out r captures′ out′
-  pushed-reference names m s encoding k = record { pushes = λ v p. (rw p at k) }
+  pub pushed-reference : (names : Names) (m : Marker) (s : List ℕ) (escaping : Escaping) → Keeps (push (encodeOf escaping (orNothing (referenceFor names m s)))) b captures out r captures′ out′
+      → PushesReference names m s escaping b captures out r captures′ out′
+  pushed-reference names m s escaping k = record { pushes = λ v p. (rw p at k) }
 
   pub pushed-start : (s : List ℕ) → Keeps (push (written (startOf s))) b captures out r captures′ out′ → PushesStart s b captures out r captures′ out′
   pushed-start s k = record { pushes = λ v p. (rw p at k) }

@@ -6,6 +6,7 @@ use mathlib.Core.Option.{some}
 use Prim.Native.Nat.{ℕ}
 use lib.ListN.{getElem?}
 use Rattle.lent.specs.Bytes.{bytes}
+use Rattle.encode_byte.specs.declared.Escaping.{Escaping}
 use Rattle.encode.specs.Encode.{encodeOf}
 use Rattle.character_reference.specs.declared.Marker.{Marker}
 use Rattle.character_reference.specs.declared.Names.{Names}
@@ -20,13 +21,13 @@ use Rattle.machine.specs.Turn.{urlOf}
 use Rattle.state_buffers.specs.declared.Buffers.{Buffers}
 use Rattle.state_buffers.specs.Stand.{Keeps}
 
--- an address behind `mailto:`, whatever the options are
-pub record PushesMail (s : List ℕ) (b : Buffers) (captures out : List ℕ) (r : Buffers) (captures′ out′ : List ℕ) : Type 0 where
-  pub pushes : (o : Options) → Keeps (push (urlOf o false (bytes "mailto:" ++ s))) b captures out r captures′ out′
+-- an address behind `mailto:`, whatever the other options are
+pub record PushesMail (apostrophes : Bool) (s : List ℕ) (b : Buffers) (captures out : List ℕ) (r : Buffers) (captures′ out′ : List ℕ) : Type 0 where
+  pub pushes : (o : Options) → o .«escape_apostrophes» ≡ apostrophes → Keeps (push (urlOf o false (bytes "mailto:" ++ s))) b captures out r captures′ out′
 
 -- a character reference's text
-pub record PushesReference (names : Names) (m : Marker) (s : List ℕ) (encoding : Bool) (b : Buffers) (captures out : List ℕ) (r : Buffers) (captures′ out′ : List ℕ) : Type 0 where
-  pub pushes : (v : List ℕ) → referenceFor names m s ≡ some v → Keeps (push (encodeOf encoding v)) b captures out r captures′ out′
+pub record PushesReference (names : Names) (m : Marker) (s : List ℕ) (escaping : Escaping) (b : Buffers) (captures out : List ℕ) (r : Buffers) (captures′ out′ : List ℕ) : Type 0 where
+  pub pushes : (v : List ℕ) → referenceFor names m s ≡ some v → Keeps (push (encodeOf escaping v)) b captures out r captures′ out′
 
 -- the attribute of a list that starts with the item value s
 pub record PushesStart (s : List ℕ) (b : Buffers) (captures out : List ℕ) (r : Buffers) (captures′ out′ : List ℕ) : Type 0 where

@@ -17,6 +17,7 @@ ghost use Rattle.state_buffers.specs.Stand.{Keeps};
 ghost use Rattle.write_pieces.specs.Pieces.{PushesMail, PushesReference, PushesStart, PushesAlign, enterOf};
 use character_reference::Marker;
 use character_reference::Names;
+use encode_byte::Escaping;
 use event::BytePlace;
 use event::Event;
 use machine::Options;
@@ -137,7 +138,7 @@ pub fn push_decimal(b: Buffers, captures: &mut [u8], out: &mut [u8], n: usize) -
     r
 }
 
-// A line of code between its virtual spaces, encoded where `encoding` says so.
+// A line of code between its virtual spaces, encoded as `escaping` says.
 pub fn push_padded(
     b: Buffers,
     captures: &mut [u8],
@@ -145,24 +146,31 @@ pub fn push_padded(
     before: u8,
     s: &[u8],
     after: u8,
-    encoding: bool,
+    escaping: Escaping,
 ) -> Buffers
-    ensures { λ r. ⌜ Keeps (push (encodeOf encoding (replicate before 32 ++ now (s .entry) ++ replicate after 32))) b (now (captures .entry)) (now (out .entry)) r (now (captures .exit)) (now (out .exit)) ⌝ }
+    ensures { λ r. ⌜ Keeps (push (encodeOf escaping (replicate before 32 ++ now (s .entry) ++ replicate after 32))) b (now (captures .entry)) (now (out .entry)) r (now (captures .exit)) (now (out .exit)) ⌝ }
 {
     let mut r = b;
     if b.depth == 0 {
-        r.page = put_padded(out, b.page, before, s, after, encoding);
+        r.page = put_padded(out, b.page, before, s, after, escaping);
         return r;
     }
-    r.end = put_padded(captures, b.end, before, s, after, encoding);
+    r.end = put_padded(captures, b.end, before, s, after, escaping);
     r
 }
 
-fn put_padded(out: &mut [u8], at: usize, before: u8, s: &[u8], after: u8, encoding: bool) -> usize
-    ensures { λ r. ⌜ Filled (now (out .entry)) at (encodeOf encoding (replicate before 32 ++ now (s .entry) ++ replicate after 32)) (now (out .exit)) r ⌝ }
+fn put_padded(
+    out: &mut [u8],
+    at: usize,
+    before: u8,
+    s: &[u8],
+    after: u8,
+    escaping: Escaping,
+) -> usize
+    ensures { λ r. ⌜ Filled (now (out .entry)) at (encodeOf escaping (replicate before 32 ++ now (s .entry) ++ replicate after 32)) (now (out .exit)) r ⌝ }
 {
     let p = put_spaces(out, at, before as usize);
-    let q = encode::encode(s, encoding, out, p);
+    let q = encode::encode(s, escaping, out, p);
     put_spaces(out, q, after as usize)
 }
 
@@ -192,41 +200,48 @@ pub fn push_url(
 pub fn put_url(out: &mut [u8], at: usize, s: &[u8], options: Options, image: bool) -> usize
     ensures { λ r. ⌜ Filled (now (out .entry)) at (urlOf options image (now (s .entry))) (now (out .exit)) r ⌝ }
 {
+    let apostrophes = options.escape_apostrophes;
     if options.allow_dangerous_protocol {
-        return sanitize_uri::sanitize(s, out, at);
+        return sanitize_uri::sanitize(s, apostrophes, out, at);
     }
     if !image {
-        return sanitize_uri::sanitize_with_protocols(s, Protocols::Link, out, at);
+        return sanitize_uri::sanitize_with_protocols(s, Protocols::Link, apostrophes, out, at);
     }
     if options.allow_any_img_src {
-        return sanitize_uri::sanitize(s, out, at);
+        return sanitize_uri::sanitize(s, apostrophes, out, at);
     }
-    sanitize_uri::sanitize_with_protocols(s, Protocols::Image, out, at)
+    sanitize_uri::sanitize_with_protocols(s, Protocols::Image, apostrophes, out, at)
 }
 
-// The address of an email autolink: with its scheme it is safe, whatever the options are.
-pub fn push_mail(b: Buffers, captures: &mut [u8], out: &mut [u8], s: &[u8]) -> Buffers
-    ensures { λ r. ⌜ PushesMail (now (s .entry)) b (now (captures .entry)) (now (out .entry)) r (now (captures .exit)) (now (out .exit)) ⌝ }
+// The address of an email autolink: with its scheme it is safe, whatever may be dangerous.
+pub fn push_mail(
+    b: Buffers,
+    captures: &mut [u8],
+    out: &mut [u8],
+    s: &[u8],
+    apostrophes: bool,
+) -> Buffers
+    ensures { λ r. ⌜ PushesMail apostrophes (now (s .entry)) b (now (captures .entry)) (now (out .entry)) r (now (captures .exit)) (now (out .exit)) ⌝ }
 {
     let mut r = b;
     if b.depth == 0 {
-        r.page = put_mail(out, b.page, s);
+        r.page = put_mail(out, b.page, s, apostrophes);
         return r;
     }
-    r.end = put_mail(captures, b.end, s);
+    r.end = put_mail(captures, b.end, s, apostrophes);
     r
 }
 
-fn put_mail(out: &mut [u8], at: usize, s: &[u8]) -> usize
-    ensures { λ r. ⌜ Filled (now (out .entry)) at (sanitizeOf (bytes "mailto:" ++ now (s .entry))) (now (out .exit)) r ⌝ }
+fn put_mail(out: &mut [u8], at: usize, s: &[u8], apostrophes: bool) -> usize
+    ensures { λ r. ⌜ Filled (now (out .entry)) at (sanitizeOf apostrophes (bytes "mailto:" ++ now (s .entry))) (now (out .exit)) r ⌝ }
 {
     let p = lent::put_all(out, at, b"mailto:");
-    sanitize_uri::sanitize(s, out, p)
+    sanitize_uri::sanitize(s, apostrophes, out, p)
 }
 
 // ---- references
 
-// What a character reference stands for, encoded where `encoding` says so.
+// What a character reference stands for, encoded as `escaping` says.
 pub fn push_reference(
     b: Buffers,
     captures: &mut [u8],
@@ -234,16 +249,16 @@ pub fn push_reference(
     names: Names,
     m: Marker,
     s: &[u8],
-    encoding: bool,
+    escaping: Escaping,
 ) -> Buffers
-    ensures { λ r. ⌜ PushesReference names m (now (s .entry)) encoding b (now (captures .entry)) (now (out .entry)) r (now (captures .exit)) (now (out .exit)) ⌝ }
+    ensures { λ r. ⌜ PushesReference names m (now (s .entry)) escaping b (now (captures .entry)) (now (out .entry)) r (now (captures .exit)) (now (out .exit)) ⌝ }
 {
     let mut r = b;
     if b.depth == 0 {
-        r.page = put_reference(out, b.page, names, m, s, encoding);
+        r.page = put_reference(out, b.page, names, m, s, escaping);
         return r;
     }
-    r.end = put_reference(captures, b.end, names, m, s, encoding);
+    r.end = put_reference(captures, b.end, names, m, s, escaping);
     r
 }
 
@@ -254,13 +269,13 @@ fn put_reference(
     names: Names,
     m: Marker,
     s: &[u8],
-    encoding: bool,
+    escaping: Escaping,
 ) -> usize
-    ensures { λ r. ⌜ Filled (now (out .entry)) at (encodeOf encoding (orNothing (referenceFor names m (now (s .entry))))) (now (out .exit)) r ⌝ }
+    ensures { λ r. ⌜ Filled (now (out .entry)) at (encodeOf escaping (orNothing (referenceFor names m (now (s .entry))))) (now (out .exit)) r ⌝ }
 {
     let mut d = [0u8; 4];
     let n = character_reference::put_reference(&mut d, 0, names, m, s);
-    encode::encode(&d[0..n], encoding, out, at)
+    encode::encode(&d[0..n], escaping, out, at)
 }
 
 // ---- attributes

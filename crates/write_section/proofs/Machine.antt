@@ -89,23 +89,23 @@ module _ (s : State) (none : s .captures ≡ []) where
       went l ∙ ap (λ (x : State). push (bytes "</li>") (endLineIfNeeded x)) w ∙ ap (push (bytes "</li>")) (needed b) ∙ pushed (ended (s .fixed .ending) b) (bytes "</li>")
 
   item-is : (c : Call) (p : List ℕ) (u : State) → footnoteItem c (setPage p s) ≡ go u
-      → (body : List ℕ) × (bodyOf (c .label) (s .kept .footnotes) ≡ go body) × (u ≡ setPage (itemPage (s .fixed .ending) (c .label) (c .times) body p) s)
+      → (body : List ℕ) × (bodyOf (c .label) (s .kept .footnotes) ≡ go body) × (u ≡ setPage (itemPage (s .fixed) (c .label) (c .times) body p) s)
   unfolding footnoteItem itemPage itemEnd itemStart
   item-is c p u i =
-      let a = addressOf (c .label) in
+      let a = addressOf (s .fixed .apostrophes) (c .label) in
       let back = backreferences a (c .times) in
       let start : State = endLine (push (bytes "\">") (push a (push (bytes "<li id=\"user-content-fn-") (endLine (setPage p s))))) in
       let (body, e, j) = first-goes (bodyOf (c .label) (s .kept .footnotes)) (λ b. pushBody b back start >>= λ v. go (push (bytes "</li>") (endLineIfNeeded v))) u i in
       (body, e, item-written body back _ start u (opened p (bytes "<li id=\"user-content-fn-") a (bytes "\">")) j)
 
   items-are : (cs : List Call) (p : List ℕ) (u : State) → footnoteItems cs (setPage p s) ≡ go u
-      → (q : List ℕ) × (itemsPage (s .fixed .ending) (s .kept .footnotes) cs p ≡ go q) × (u ≡ setPage q s)
+      → (q : List ℕ) × (itemsPage (s .fixed) (s .kept .footnotes) cs p ≡ go q) × (u ≡ setPage q s)
   unfolding footnoteItems itemsPage
   items-are [] p u i = (p, refl, went i)
   items-are (c ∷ cs) p u i =
       let (v, j, k) = first-goes (footnoteItem c (setPage p s)) (footnoteItems cs) u i in
       let (body, e, w) = item-is c p v j in
-      let (q, m, n) = items-are cs (itemPage (s .fixed .ending) (c .label) (c .times) body p) u (rw w at k) in
+      let (q, m, n) = items-are cs (itemPage (s .fixed) (c .label) (c .times) body p) u (rw w at k) in
       (q, rw e m, n)
 
   -- ---- the section
@@ -123,7 +123,7 @@ module _ (s : State) (none : s .captures ≡ []) where
 
   section-written : (cs : List Call) (p : List ℕ) (o u : State) → o ≡ setPage p s
       → (footnoteItems cs o >>= λ v. go (endLine (push (bytes "</section>") (endLine (push (bytes "</ol>") (endLine v)))))) ≡ go u
-      → (q : List ℕ) × (itemsPage (s .fixed .ending) (s .kept .footnotes) cs p ≡ go q) × (u .page ≡ q ++ tailText (s .fixed .ending))
+      → (q : List ℕ) × (itemsPage (s .fixed) (s .kept .footnotes) cs p ≡ go q) × (u .page ≡ q ++ tailText (s .fixed .ending))
   unfolding tailText
   section-written cs p o u e i =
       let i′ = rw e at i in
@@ -133,6 +133,6 @@ module _ (s : State) (none : s .captures ≡ []) where
       (q, m, ap (λ (x : State). x .page) (went k ∙ ap close n ∙ closed q (bytes "</ol>") (bytes "</section>")))
 
   pub section-is : (u : State) → footnoteSection s ≡ go u
-      → (q : List ℕ) × (itemsPage (s .fixed .ending) (s .kept .footnotes) (s .kept .calls) (headPage (s .fixed .ending) (s .page)) ≡ go q) × (u .page ≡ q ++ tailText (s .fixed .ending))
+      → (q : List ℕ) × (itemsPage (s .fixed) (s .kept .footnotes) (s .kept .calls) (headPage (s .fixed .ending) (s .page)) ≡ go q) × (u .page ≡ q ++ tailText (s .fixed .ending))
   unfolding footnoteSection headPage
   section-is u i = section-written (s .kept .calls) _ _ u (headed headingText (bytes "<ol>")) i

@@ -14,6 +14,7 @@ use Rattle.lent.specs.Bytes.{if_then_else_, bytes}
 use Rattle.lent.specs.Fill.{Filled}
 use Rattle.lent.proofs.Laws.{both, and-left}
 use Rattle.machine.specs.declared.Ending.{Ending}
+use Rattle.machine.specs.declared.Fixed.{Fixed}
 use Rattle.machine.specs.Buffers.{endingBytes, isEol, lastOr}
 use Rattle.machine.specs.Footnote.{addressOf}
 use Rattle.machine.specs.Section.{bodyEnd, endsParagraph, backreferences}
@@ -74,10 +75,10 @@ module _ (ending : Ending) {d e f g : List ℕ} {at p q r : ℕ} where
   unfolding behindBody
   behind-put body back x y z = record { writes = λ page h. more (y .writes (page ++ body) (more h x)) z }
 
-  pub item-put : (label : List ℕ) (times : ℕ) (body : List ℕ) → Filled d at (itemStart ending (addressOf label)) e p
-      → Writes (bodyPage ending body (backreferences (addressOf label) times)) e p f q → Writes (itemEnd ending) f q g r → Writes (itemPage ending label times body) d at g r
-  unfolding itemPage
-  item-put label times body x y z = record { writes = λ page h. z .writes _ (y .writes _ (more h x)) }
+pub item-put : (fixed : Fixed) {d e f g : List ℕ} {at p q r : ℕ} (label : List ℕ) (times : ℕ) (body : List ℕ) → Filled d at (itemStart (fixed .ending) (addressOf (fixed .apostrophes) label)) e p
+    → Writes (bodyPage (fixed .ending) body (backreferences (addressOf (fixed .apostrophes) label) times)) e p f q → Writes (itemEnd (fixed .ending)) f q g r → Writes (itemPage fixed label times body) d at g r
+unfolding itemPage
+item-put fixed label times body x y z = record { writes = λ page h. z .writes _ (y .writes _ (more h x)) }
 
 pub item-end-put : (ending : Ending) {d e f : List ℕ} {at p r : ℕ} → Writes (ended ending) d at e p → Filled e p (bytes "</li>") f r → Writes (itemEnd ending) d at f r
 unfolding itemEnd

@@ -10,7 +10,7 @@ use Rattle.regions.specs.Sizes.{regionSize, keptAt, workSize}
 use Rattle.normalize_identifier.specs.declared.Found.{Found}
 use Rattle.normalize_identifier.specs.declared.Found.the-variants.{At, Nothing}
 use Rattle.normalize_identifier.specs.Search.{parts, labelsOf}
-use Rattle.machine.specs.declared.Ending.{Ending}
+use Rattle.machine.specs.declared.Fixed.{Fixed}
 use Rattle.machine.specs.Outcome.{go, _>>=_, need}
 use Rattle.machine.specs.State.{State, Footnote, Call}
 use Rattle.machine.specs.Footnote.{callLabels}
@@ -65,20 +65,20 @@ body-at fs j body p = on (getElem? fs j) refl p
     on none e q = never q
     on (some f) e q = (f, e, cc)
 
-module _ {ending : Ending} {label work footnotes : List ℕ} {times j at : ℕ} {d : List ℕ} where
-  pub work-short : (length work ≡ workSize → ⊥) → WritesFound ending label times work footnotes j d at d at
+module _ {fixed : Fixed} {label work footnotes : List ℕ} {times j at : ℕ} {d : List ℕ} where
+  pub work-short : (length work ≡ workSize → ⊥) → WritesFound fixed label times work footnotes j d at d at
   work-short h = record { writes = λ l e p. absurd (h l) }
 
   module _ {place : ℕ} (a : place ≡ getD (column noteRows 2 footnotes) j 0) where
-    pub place-outside : regionSize < place → WritesFound ending label times work footnotes j d at d at
+    pub place-outside : regionSize < place → WritesFound fixed label times work footnotes j d at d at
     place-outside h = record { writes = λ l e p. absurd (omega (arith, p .below)) }
 
     module _ {n : ℕ} (b : n ≡ getD (column noteRows 3 footnotes) j 0) where
-      pub length-outside : regionSize - place < n → WritesFound ending label times work footnotes j d at d at
+      pub length-outside : regionSize - place < n → WritesFound fixed label times work footnotes j d at d at
       length-outside h = record { writes = λ l e p. absurd (omega (arith, p .below)) }
 
-      pub body-there : {f : List ℕ} {r : ℕ} → Writes (itemPage ending label times (take (keptAt + place + n - (keptAt + place)) (drop (keptAt + place) work))) d at f r
-          → WritesFound ending label times work footnotes j d at f r
+      pub body-there : {f : List ℕ} {r : ℕ} → Writes (itemPage fixed label times (take (keptAt + place + n - (keptAt + place)) (drop (keptAt + place) work))) d at f r
+          → WritesFound fixed label times work footnotes j d at f r
       body-there w = record {
         writes = λ {body} l e p.
             let m : keptAt + place + n - (keptAt + place) ≡ n = omega arith in
@@ -89,9 +89,9 @@ module _ {ending : Ending} {label work footnotes : List ℕ} {times j at : ℕ} 
 
 -- ---- a call
 
-item-same : (ending : Ending) (label label′ : List ℕ) (times times′ : ℕ) (body body′ : List ℕ) {d e : List ℕ} {at r : ℕ} → label ≡ label′ → times ≡ times′ → body ≡ body′
-    → Writes (itemPage ending label times body) d at e r → Writes (itemPage ending label′ times′ body′) d at e r
-item-same ending label label′ times times′ body body′ a b c w = rw (← a, ← b, ← c) w
+item-same : (fixed : Fixed) (label label′ : List ℕ) (times times′ : ℕ) (body body′ : List ℕ) {d e : List ℕ} {at r : ℕ} → label ≡ label′ → times ≡ times′ → body ≡ body′
+    → Writes (itemPage fixed label times body) d at e r → Writes (itemPage fixed label′ times′ body′) d at e r
+item-same fixed label label′ times times′ body body′ a b c w = rw (← a, ← b, ← c) w
 
 module _ {k : Kept} {text work footnotes calls : List ℕ} {from to : ℕ} (i : ℕ) (a : from ≡ getD (column noteRows 0 calls) i 0) (b : to ≡ getD (column noteRows 1 calls) i 0) {s : State} (t : There k text work footnotes calls s) {c : Call} (p : getElem? (s .kept .calls) i ≡ some c) where
   call-label : LabelIs text from to (c .label)
@@ -104,23 +104,23 @@ module _ {k : Kept} {text work footnotes calls : List ℕ} {from to : ℕ} (i : 
       → (footnoteAt (s .kept .footnotes) found >>= λ f. go (f .body)) ≡ go body
   body-found g q = rw (g .finds (t .keeps) kept-fits call-label) q
 
-module _ {k : Kept} {ending : Ending} {text work footnotes calls : List ℕ} {i at from to : ℕ} {d : List ℕ} (a : from ≡ getD (column noteRows 0 calls) i 0) (b : to ≡ getD (column noteRows 1 calls) i 0) where
-  pub called-unordered : to < from → WritesCall k ending text work footnotes calls i d at d at
+module _ {k : Kept} {fixed : Fixed} {text work footnotes calls : List ℕ} {i at from to : ℕ} {d : List ℕ} (a : from ≡ getD (column noteRows 0 calls) i 0) (b : to ≡ getD (column noteRows 1 calls) i 0) where
+  pub called-unordered : to < from → WritesCall k fixed text work footnotes calls i d at d at
   called-unordered h = record { writes = λ t p q. absurd (omega (arith, call-label i a b t p .ordered)) }
 
-  pub called-outside : length text < to → WritesCall k ending text work footnotes calls i d at d at
+  pub called-outside : length text < to → WritesCall k fixed text work footnotes calls i d at d at
   called-outside h = record { writes = λ t p q. absurd (omega (arith, call-label i a b t p .inside)) }
 
   module _ {found : Found} (g : FindsFootnote k text from to footnotes found) where
-    pub called-nothing : found ≡ Nothing → WritesCall k ending text work footnotes calls i d at d at
+    pub called-nothing : found ≡ Nothing → WritesCall k fixed text work footnotes calls i d at d at
     called-nothing h = record { writes = λ t p q. (let z = rw h at (body-found i a b t p g q) in never z) }
 
-    pub called-found : {times j r : ℕ} {f : List ℕ} → found ≡ At j → TellsTimes calls i times → WritesFound ending (take (to - from) (drop from text)) times work footnotes j d at f r
-        → WritesCall k ending text work footnotes calls i d at f r
+    pub called-found : {times j r : ℕ} {f : List ℕ} → found ≡ At j → TellsTimes calls i times → WritesFound fixed (take (to - from) (drop from text)) times work footnotes j d at f r
+        → WritesCall k fixed text work footnotes calls i d at f r
     called-found {times} {j} h n w = record {
       writes = λ {s} {c} {body} t p q.
           let (f, e, o) = body-at (s .kept .footnotes) j body (rw h at (body-found i a b t p g q)) in
           let piece = t .keeps .footnotes (kept-fits i a b t p) .each j f e in
           let v = n .tells (t .keeps) (index-low (s .kept .calls) i c p) ∙ times-are (s .kept .calls) i c p in
-          item-same ending (take (to - from) (drop from text)) (c .label) times (c .times) (f .body) body (call-label i a b t p .is) v o (w .writes (t .long) (t .fits) piece);
+          item-same fixed (take (to - from) (drop from text)) (c .label) times (c .times) (f .body) body (call-label i a b t p .is) v o (w .writes (t .long) (t .fits) piece);
     }

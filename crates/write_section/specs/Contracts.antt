@@ -8,7 +8,6 @@ use Rattle.regions.specs.Regions.{regionAt}
 use Rattle.regions.specs.Sizes.{regionSize, keptAt, workSize}
 use Rattle.normalize_identifier.specs.declared.Found.{Found}
 use Rattle.normalize_identifier.specs.Search.{firstSame}
-use Rattle.machine.specs.declared.Ending.{Ending}
 use Rattle.machine.specs.declared.Fixed.{Fixed}
 use Rattle.machine.specs.Outcome.{go}
 use Rattle.machine.specs.State.{State, Call}
@@ -42,15 +41,15 @@ pub record There (k : Kept) (text work footnotes calls : List ℕ) (s : State) :
   pub keeps : InTables k text (regionAt keptAt work) (tables definitions footnotes calls labels) s
 
 -- the item of the footnote in row j of the table
-pub record WritesFound (ending : Ending) (label : List ℕ) (times : ℕ) (work footnotes : List ℕ) (j : ℕ) (out : List ℕ) (at : ℕ) (out′ : List ℕ) (r : ℕ) : Type 0 where
+pub record WritesFound (fixed : Fixed) (label : List ℕ) (times : ℕ) (work footnotes : List ℕ) (j : ℕ) (out : List ℕ) (at : ℕ) (out′ : List ℕ) (r : ℕ) : Type 0 where
   pub writes : {body : List ℕ} {end : ℕ} → length work ≡ workSize → end ≤ regionSize → Piece (regionAt keptAt work) end (getD (column noteRows 2 footnotes) j 0) (getD (column noteRows 3 footnotes) j 0) body
-      → Writes (itemPage ending label times body) out at out′ r
+      → Writes (itemPage fixed label times body) out at out′ r
 
 -- the item of the ith call
-pub record WritesCall (k : Kept) (ending : Ending) (text work footnotes calls : List ℕ) (i : ℕ) (out : List ℕ) (at : ℕ) (out′ : List ℕ) (r : ℕ) : Type 0 where
+pub record WritesCall (k : Kept) (fixed : Fixed) (text work footnotes calls : List ℕ) (i : ℕ) (out : List ℕ) (at : ℕ) (out′ : List ℕ) (r : ℕ) : Type 0 where
   pub writes : {s : State} {c : Call} {body : List ℕ} → There k text work footnotes calls s → getElem? (s .kept .calls) i ≡ some c → bodyOf (c .label) (s .kept .footnotes) ≡ go body
-      → Writes (itemPage ending (c .label) (c .times) body) out at out′ r
+      → Writes (itemPage fixed (c .label) (c .times) body) out at out′ r
 
 -- the items of all calls
-pub record WritesItems (k : Kept) (ending : Ending) (text work footnotes calls out : List ℕ) (at : ℕ) (out′ : List ℕ) (r : ℕ) : Type 0 where
-  pub writes : {s : State} (page last : List ℕ) → There k text work footnotes calls s → itemsPage ending (s .kept .footnotes) (s .kept .calls) page ≡ go last → Holds out at page → Holds out′ r last
+pub record WritesItems (k : Kept) (fixed : Fixed) (text work footnotes calls out : List ℕ) (at : ℕ) (out′ : List ℕ) (r : ℕ) : Type 0 where
+  pub writes : {s : State} (page last : List ℕ) → There k text work footnotes calls s → itemsPage fixed (s .kept .footnotes) (s .kept .calls) page ≡ go last → Holds out at page → Holds out′ r last

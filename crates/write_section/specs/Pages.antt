@@ -4,6 +4,7 @@ use Prim.Native.Nat.{ℕ, _-_}
 use lib.ListN.{take, drop}
 use Rattle.lent.specs.Bytes.{if_then_else_, bytes}
 use Rattle.machine.specs.declared.Ending.{Ending}
+use Rattle.machine.specs.declared.Fixed.{Fixed}
 use Rattle.machine.specs.Outcome.{Outcome, go, _>>=_}
 use Rattle.machine.specs.State.{Footnote, Call}
 use Rattle.machine.specs.Buffers.{endingBytes, isEol, lastOr}
@@ -43,11 +44,13 @@ bodyPage ending body back page = if endsParagraph body then page ++ splitBody bo
 unfoldable pub itemEnd : Ending → (page : List ℕ) → List ℕ
 itemEnd ending page = ended ending page ++ bytes "</li>"
 
-unfoldable pub itemPage : Ending → (label : List ℕ) → (times : ℕ) → (body page : List ℕ) → List ℕ
-itemPage ending label times body page = itemEnd ending (bodyPage ending body (backreferences (addressOf label) times) (page ++ itemStart ending (addressOf label)))
+unfoldable pub itemPage : Fixed → (label : List ℕ) → (times : ℕ) → (body page : List ℕ) → List ℕ
+itemPage fixed label times body page =
+    let address = addressOf (fixed .apostrophes) label in
+    itemEnd (fixed .ending) (bodyPage (fixed .ending) body (backreferences address times) (page ++ itemStart (fixed .ending) address))
 
 -- ---- all items
 
-unfoldable pub itemsPage : Ending → List Footnote → List Call → (page : List ℕ) → Outcome (List ℕ)
-itemsPage ending fs [] page = go page
-itemsPage ending fs (c ∷ cs) page = bodyOf (c .label) fs >>= λ body. itemsPage ending fs cs (itemPage ending (c .label) (c .times) body page)
+unfoldable pub itemsPage : Fixed → List Footnote → List Call → (page : List ℕ) → Outcome (List ℕ)
+itemsPage fixed fs [] page = go page
+itemsPage fixed fs (c ∷ cs) page = bodyOf (c .label) fs >>= λ body. itemsPage fixed fs cs (itemPage fixed (c .label) (c .times) body page)

@@ -29,7 +29,7 @@ pub fn footnote_section(
 {
     let ending = fixed.ending;
     let p = put_head(ending, out, at);
-    let q = put_items(k, ending, text, work, footnotes, calls, out, p);
+    let q = put_items(k, fixed, text, work, footnotes, calls, out, p);
     put_tail(ending, out, q)
 }
 
@@ -90,17 +90,24 @@ fn put_tail(ending: Ending, out: &mut [u8], at: usize) -> usize
 
 // ---- an item
 
-fn put_item_start(ending: Ending, label: &[u8], out: &mut [u8], at: usize) -> usize
-    ensures { λ r. ⌜ Filled (now (out .entry)) at (itemStart ending (addressOf (now (label .entry)))) (now (out .exit)) r ⌝ }
+fn put_item_start(
+    ending: Ending,
+    label: &[u8],
+    apostrophes: bool,
+    out: &mut [u8],
+    at: usize,
+) -> usize
+    ensures { λ r. ⌜ Filled (now (out .entry)) at (itemStart ending (addressOf apostrophes (now (label .entry)))) (now (out .exit)) r ⌝ }
 {
     let p = put_on_line(ending, b"<li id=\"user-content-fn-", out, at);
-    let q = write_footnote::put_address(label, out, p);
+    let q = write_footnote::put_address(label, apostrophes, out, p);
     put_line(ending, b"\">", out, q)
 }
 
 // The body up to a place, the way back behind a space, and the rest of the body.
 fn put_split(
     label: &[u8],
+    apostrophes: bool,
     times: usize,
     body: &[u8],
     cut: usize,
@@ -108,47 +115,49 @@ fn put_split(
     at: usize,
 ) -> usize
     requires { ⌜ cut ≤ length (now body) ⌝ }
-    ensures { λ r. ⌜ Filled (now (out .entry)) at (splitBody (now (body .entry)) cut (backreferences (addressOf (now (label .entry))) times)) (now (out .exit)) r ⌝ }
+    ensures { λ r. ⌜ Filled (now (out .entry)) at (splitBody (now (body .entry)) cut (backreferences (addressOf apostrophes (now (label .entry))) times)) (now (out .exit)) r ⌝ }
 {
     let before = &body[0..cut];
     let after = &body[cut..];
     let p = lent::put_all(out, at, before);
     let q = lent::put(out, p, b' ');
-    let m = write_footnote::put_backreferences(label, times, out, q);
+    let m = write_footnote::put_backreferences(label, apostrophes, times, out, q);
     lent::put_all(out, m, after)
 }
 
 fn put_behind(
     ending: Ending,
     label: &[u8],
+    apostrophes: bool,
     times: usize,
     body: &[u8],
     out: &mut [u8],
     at: usize,
 ) -> usize
-    ensures { λ r. ⌜ Writes (behindBody ending (now (body .entry)) (backreferences (addressOf (now (label .entry))) times)) (now (out .entry)) at (now (out .exit)) r ⌝ }
+    ensures { λ r. ⌜ Writes (behindBody ending (now (body .entry)) (backreferences (addressOf apostrophes (now (label .entry))) times)) (now (out .entry)) at (now (out .exit)) r ⌝ }
 {
     let p = lent::put_all(out, at, body);
     let q = end_line(ending, out, p);
-    write_footnote::put_backreferences(label, times, out, q)
+    write_footnote::put_backreferences(label, apostrophes, times, out, q)
 }
 
 // The way back goes into a paragraph at the end, or behind the body.
 fn put_body(
     ending: Ending,
     label: &[u8],
+    apostrophes: bool,
     times: usize,
     body: &[u8],
     out: &mut [u8],
     at: usize,
 ) -> usize
-    ensures { λ r. ⌜ Writes (bodyPage ending (now (body .entry)) (backreferences (addressOf (now (label .entry))) times)) (now (out .entry)) at (now (out .exit)) r ⌝ }
+    ensures { λ r. ⌜ Writes (bodyPage ending (now (body .entry)) (backreferences (addressOf apostrophes (now (label .entry))) times)) (now (out .entry)) at (now (out .exit)) r ⌝ }
 {
     if write_footnote::ends_paragraph(body) {
         let end = write_footnote::body_end(body);
-        return put_split(label, times, body, end - 4, out, at);
+        return put_split(label, apostrophes, times, body, end - 4, out, at);
     }
-    put_behind(ending, label, times, body, out, at)
+    put_behind(ending, label, apostrophes, times, body, out, at)
 }
 
 fn put_item_end(ending: Ending, out: &mut [u8], at: usize) -> usize
@@ -159,17 +168,19 @@ fn put_item_end(ending: Ending, out: &mut [u8], at: usize) -> usize
 }
 
 fn put_item(
-    ending: Ending,
+    fixed: Fixed,
     label: &[u8],
     times: usize,
     body: &[u8],
     out: &mut [u8],
     at: usize,
 ) -> usize
-    ensures { λ r. ⌜ Writes (itemPage ending (now (label .entry)) times (now (body .entry))) (now (out .entry)) at (now (out .exit)) r ⌝ }
+    ensures { λ r. ⌜ Writes (itemPage fixed (now (label .entry)) times (now (body .entry))) (now (out .entry)) at (now (out .exit)) r ⌝ }
 {
-    let p = put_item_start(ending, label, out, at);
-    let q = put_body(ending, label, times, body, out, p);
+    let ending = fixed.ending;
+    let apostrophes = fixed.apostrophes;
+    let p = put_item_start(ending, label, apostrophes, out, at);
+    let q = put_body(ending, label, apostrophes, times, body, out, p);
     put_item_end(ending, out, q)
 }
 
@@ -177,7 +188,7 @@ fn put_item(
 
 // The item of a label whose body is in row j of the footnotes.
 fn put_found(
-    ending: Ending,
+    fixed: Fixed,
     label: &[u8],
     times: usize,
     work: &[u8],
@@ -186,7 +197,7 @@ fn put_found(
     out: &mut [u8],
     at: usize,
 ) -> usize
-    ensures { λ r. ⌜ WritesFound ending (now (label .entry)) times (now (work .entry)) (now (footnotes .entry)) j (now (out .entry)) at (now (out .exit)) r ⌝ }
+    ensures { λ r. ⌜ WritesFound fixed (now (label .entry)) times (now (work .entry)) (now (footnotes .entry)) j (now (out .entry)) at (now (out .exit)) r ⌝ }
 {
     if work.len() != regions::WORK {
         return at;
@@ -202,13 +213,13 @@ fn put_found(
     let from = regions::KEPT_AT + place;
     let to = from + n;
     let body = &work[from..to];
-    put_item(ending, label, times, body, out, at)
+    put_item(fixed, label, times, body, out, at)
 }
 
 // The item of the ith call.
 fn put_called(
     k: Kept,
-    ending: Ending,
+    fixed: Fixed,
     text: &[u8],
     work: &[u8],
     footnotes: &[usize],
@@ -217,7 +228,7 @@ fn put_called(
     out: &mut [u8],
     at: usize,
 ) -> usize
-    ensures { λ r. ⌜ WritesCall k ending (now (text .entry)) (now (work .entry)) (now (footnotes .entry)) (now (calls .entry)) i (now (out .entry)) at (now (out .exit)) r ⌝ }
+    ensures { λ r. ⌜ WritesCall k fixed (now (text .entry)) (now (work .entry)) (now (footnotes .entry)) (now (calls .entry)) i (now (out .entry)) at (now (out .exit)) r ⌝ }
 {
     let from = state_kept::call_from(calls, i);
     let to = state_kept::call_to(calls, i);
@@ -231,14 +242,14 @@ fn put_called(
     let label = &text[from..to];
     let found = state_kept::find_footnote(k, text, from, to, footnotes);
     match found {
-        Found::At(j) => put_found(ending, label, times, work, footnotes, j, out, at),
+        Found::At(j) => put_found(fixed, label, times, work, footnotes, j, out, at),
         Found::Nothing => at,
     }
 }
 
 fn put_items(
     k: Kept,
-    ending: Ending,
+    fixed: Fixed,
     text: &[u8],
     work: &[u8],
     footnotes: &[usize],
@@ -246,13 +257,13 @@ fn put_items(
     out: &mut [u8],
     at: usize,
 ) -> usize
-    ensures { λ r. ⌜ WritesItems k ending (now (text .entry)) (now (work .entry)) (now (footnotes .entry)) (now (calls .entry)) (now (out .entry)) at (now (out .exit)) r ⌝ }
+    ensures { λ r. ⌜ WritesItems k fixed (now (text .entry)) (now (work .entry)) (now (footnotes .entry)) (now (calls .entry)) (now (out .entry)) at (now (out .exit)) r ⌝ }
 {
     let n = k.calls;
     let mut r = at;
     let mut i: usize = 0;
     while i < n {
-        r = put_called(k, ending, text, work, footnotes, calls, i, out, r);
+        r = put_called(k, fixed, text, work, footnotes, calls, i, out, r);
         i += 1;
     }
     r

@@ -51,7 +51,7 @@ returns-10 c = arm 42 (c .before .before .before .before .before .before .before
 
 returns-11 : tie.Need-returns-11
 unfolding rows
-returns-11 c = arm 43 (c .before .before .before .before .before .before .before .match .keys11) refl (seen-as of-with (from-keeps (c .before .before .before .before .on-exit-autolink-email .ensures)))
+returns-11 c = arm 43 (c .before .before .before .before .before .before .before .match .keys11) refl (from-keeps (c .before .before .before .before .on-exit-autolink-email .ensures))
 
 returns-12 : tie.Need-returns-12
 unfolding rows

@@ -1,41 +1,26 @@
--- The loop's invariant: what was seen and what is left make up the answer. Assumes nothing.
-use mathlib.Core.Path.{_≡_}
-use mathlib.Core.Bool.{_||_}
-use Prim.Native.Nat.{_+_, _-_}
-use lib.ListN.{take, drop}
-use Rattle.lent.specs.Bytes.{any}
-use Rattle.lent.proofs.Laws.{any-start, any-more, any-end}
-use Rattle.encode_byte.specs.Private.{isSpecial}
+-- Markup, or an apostrophe where it is escaped. Assumes nothing.
+use Rattle.encode.proofs.Special.{by-markup, by-apostrophe, by-neither}
 use borrow.Author.Needs.{needs}
 use Rattle.encode.proofs.has_special.Statement.{statement}
 use Rattle.encode.proofs.has_special.Tie as tie
 
-abbrev Inv-loop : tie.InvT-loop
-Inv-loop value i encode-html found₀ k₀ found k = (found || any (isSpecial encode-html) (take (16 - k) (drop (i + k) value))) ≡ any (isSpecial encode-html) (take 16 (drop i value))
+returns : tie.Need-returns
+returns c = search by-markup
 
-abbrev μ-loop : tie.MeasureT-loop
-μ-loop value i encode-html found₀ k₀ found k = 16 - k
+returns-2 : tie.Need-returns-2
+returns-2 c = search by-apostrophe
 
-loop-holds : tie.Need-loop-holds Inv-loop μ-loop
-loop-holds c = search any-start
-
-loop-again : tie.Need-loop-again Inv-loop μ-loop
-loop-again c = search any-more
-
-returns : tie.Need-returns Inv-loop μ-loop
-returns c = search any-end
+returns-3 : tie.Need-returns-3
+returns-3 c = search by-neither
 
 pub has-special-spec : {M : Type 1} → statement M
 has-special-spec =
     tie.close
     (tie.spec
-    Inv-loop
-    μ-loop
-    loop-holds
-    (λ c. search needs)
-    (λ c. search needs)
     (λ c κs. search needs)
-    (λ c. search needs)
-    (λ c. search needs)
-    loop-again
-    returns)
+    (λ c κs. search needs)
+    returns
+    (λ c κs. search needs)
+    (λ c κs. search needs)
+    returns-2
+    returns-3)

@@ -1,5 +1,5 @@
--- By the mask, or NUL alone. Assumes nothing.
-use Rattle.encode_byte.proofs.Laws.{by-mask, by-nul}
+-- By the mask. Assumes nothing.
+use Rattle.encode_byte.proofs.Laws.{by-mask}
 use borrow.Author.Needs.{needs}
 use Rattle.encode_byte.proofs.is_special.Statement.{statement}
 use Rattle.encode_byte.proofs.is_special.Tie as tie
@@ -7,8 +7,5 @@ use Rattle.encode_byte.proofs.is_special.Tie as tie
 returns : tie.Need-returns
 returns c = search by-mask
 
-returns-2 : tie.Need-returns-2
-returns-2 c = search by-nul
-
 pub is-special-spec : {M : Type 1} → statement M
-is-special-spec = tie.close (tie.spec (λ c κs. search needs) (λ c κs. search needs) returns returns-2)
+is-special-spec = tie.close (tie.spec (λ c κs. search needs) (λ c κs. search needs) (λ c κs. search needs) returns)

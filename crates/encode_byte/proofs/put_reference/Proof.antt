@@ -1,7 +1,7 @@
 -- Each case writes what `encodeByte` says there. Assumes nothing.
-use mathlib.Core.Bool.{true}
 use Rattle.lent.proofs.Laws.{same}
-use Rattle.encode_byte.proofs.Laws.{nul, amp, lt, gt, quot, kept}
+use Rattle.encode_byte.proofs.Laws.{kept}
+use Rattle.encode_byte.proofs.Cases.{nul, amp, lt, gt, quot, apostrophe}
 use borrow.Author.Needs.{needs}
 use Rattle.encode_byte.proofs.put_reference.Statement.{statement}
 use Rattle.encode_byte.proofs.put_reference.Tie as tie
@@ -22,7 +22,10 @@ returns-5 : tie.Need-returns-5
 returns-5 c = search (same, quot)
 
 returns-6 : tie.Need-returns-6
-returns-6 c = search (same, kept)
+returns-6 c = search (same, apostrophe)
+
+returns-7 : tie.Need-returns-7
+returns-7 c = search (same, kept)
 
 pub put-reference-spec : {M : Type 1} → statement M
 put-reference-spec =
@@ -48,6 +51,10 @@ put-reference-spec =
     (λ c κs. search needs)
     (λ c. search needs)
     returns-5
+    (λ c. search needs)
     (λ c κs. search needs)
     (λ c. search needs)
-    returns-6)
+    returns-6
+    (λ c κs. search needs)
+    (λ c. search needs)
+    returns-7)

@@ -10,10 +10,10 @@ use Rattle.normalize_uri.proofs.put_part.Statement.{statement}
 use Rattle.normalize_uri.proofs.put_part.Tie as tie
 
 abbrev Inv-loop : tie.InvT-loop
-Inv-loop value from to encode-html out₀ at r₀ i₀ out r i = Left out₀ at (encodeOf encode-html (partOf (to - from) (drop from value))) out r (encodeOf encode-html (partOf (to - i) (drop i value)))
+Inv-loop value from to escaping out₀ at r₀ i₀ out r i = Left out₀ at (encodeOf escaping (partOf (to - from) (drop from value))) out r (encodeOf escaping (partOf (to - i) (drop i value)))
 
 abbrev μ-loop : tie.MeasureT-loop
-μ-loop value from to encode-html out₀ at r₀ i₀ out r i = to - i
+μ-loop value from to escaping out₀ at r₀ i₀ out r i = to - i
 
 loop-holds : tie.Need-loop-holds Inv-loop μ-loop
 loop-holds c = all

@@ -13,10 +13,10 @@ use Rattle.normalize_uri.proofs.put_rest.Statement.{statement}
 use Rattle.normalize_uri.proofs.put_rest.Tie as tie
 
 abbrev Inv-loop : tie.InvT-loop
-Inv-loop value from to word encode-html out₀ at r₀ i₀ marks₀ out r i marks = (marks ≡ wordOf (marksOf (to - i) (drop i value))) × Left out₀ at (encodeOf encode-html (partOf (to - from) (drop from value))) out r (encodeOf encode-html (partOf (to - i) (drop i value)))
+Inv-loop value from to word escaping out₀ at r₀ i₀ marks₀ out r i marks = (marks ≡ wordOf (marksOf (to - i) (drop i value))) × Left out₀ at (encodeOf escaping (partOf (to - from) (drop from value))) out r (encodeOf escaping (partOf (to - i) (drop i value)))
 
 abbrev μ-loop : tie.MeasureT-loop
-μ-loop value from to word encode-html out₀ at r₀ i₀ marks₀ out r i marks = to - i
+μ-loop value from to word escaping out₀ at r₀ i₀ marks₀ out r i marks = to - i
 
 loop-holds : tie.Need-loop-holds Inv-loop μ-loop
 loop-holds c = (search needs, all)

@@ -11,10 +11,10 @@ use Rattle.normalize_uri.proofs.put_url.Statement.{statement}
 use Rattle.normalize_uri.proofs.put_url.Tie as tie
 
 abbrev Inv-loop : tie.InvT-loop
-Inv-loop value encode-html out₀ at r₀ i₀ next₀ out r i next = (i ≤ length value) × Left out₀ at (encodeOf encode-html (normalizeOf value)) out r (encodeOf encode-html (normalizeOf (drop i value)))
+Inv-loop value escaping out₀ at r₀ i₀ next₀ out r i next = (i ≤ length value) × Left out₀ at (encodeOf escaping (normalizeOf value)) out r (encodeOf escaping (normalizeOf (drop i value)))
 
 abbrev μ-loop : tie.MeasureT-loop
-μ-loop value encode-html out₀ at r₀ i₀ next₀ out r i next = length value - i
+μ-loop value escaping out₀ at r₀ i₀ next₀ out r i next = length value - i
 
 loop-holds : tie.Need-loop-holds Inv-loop μ-loop
 loop-holds c = (search needs, all)

@@ -9,4 +9,4 @@ returns : tie.Need-returns
 returns c = search (same, sanitized)
 
 pub sanitize-spec : {M : Type 1} → statement M
-sanitize-spec = tie.close (tie.spec (λ c κs. search needs) (λ c. search needs) returns)
+sanitize-spec = tie.close (tie.spec (λ c κs. search needs) (λ c κs. search needs) (λ c. search needs) returns)

@@ -1,4 +1,4 @@
--- Two digits put into the word of a start.
+-- Three digits put into the word of a start.
 use borrow.Author.Needs.{needs}
 use Rattle.state_context.proofs.first_word.Statement.{statement}
 use Rattle.state_context.proofs.first_word.Tie as tie
@@ -11,6 +11,8 @@ pub first-word-spec : {M : Type 1} → statement M
 first-word-spec =
     tie.close
     (tie.spec
+    (λ c κs. search needs)
+    (λ c κs. search needs)
     (λ c κs. search needs)
     (λ c κs. search needs)
     (λ c κs. search needs)

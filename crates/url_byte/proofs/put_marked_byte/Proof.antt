@@ -1,29 +1,17 @@
--- An &, a ', or percent-encoded. Assumes nothing.
+-- An & or a ', or percent-encoded. Assumes nothing.
 use Rattle.lent.proofs.Laws.{same}
-use Rattle.url_byte.proofs.Laws.{marked-amp, marked-quote, marked-other}
+use Rattle.url_byte.proofs.Laws.{marked-quoted, marked-other}
 use borrow.Author.Needs.{needs}
 use Rattle.url_byte.proofs.put_marked_byte.Statement.{statement}
 use Rattle.url_byte.proofs.put_marked_byte.Tie as tie
 
 returns : tie.Need-returns
-returns c = search (same, marked-amp)
+returns c = search (same, marked-quoted)
 
 returns-2 : tie.Need-returns-2
-returns-2 c = search (same, marked-quote)
-
-returns-3 : tie.Need-returns-3
-returns-3 c = search (same, marked-other)
+returns-2 c = search (same, marked-other)
 
 pub put-marked-byte-spec : {M : Type 1} → statement M
 put-marked-byte-spec =
     tie.close
-    (tie.spec
-    (λ c κs. search needs)
-    (λ c. search needs)
-    returns
-    (λ c κs. search needs)
-    (λ c. search needs)
-    returns-2
-    (λ c κs. search needs)
-    (λ c. search needs)
-    returns-3)
+    (tie.spec (λ c κs. search needs) (λ c. search needs) returns (λ c κs. search needs) (λ c. search needs) returns-2)

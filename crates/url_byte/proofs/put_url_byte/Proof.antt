@@ -1,6 +1,6 @@
--- Percent-encoded, an &, or as it is. Assumes nothing.
+-- Percent-encoded, an & or a ', or as it is. Assumes nothing.
 use Rattle.lent.proofs.Laws.{same}
-use Rattle.url_byte.proofs.Laws.{percent-byte, amp-byte, kept-byte}
+use Rattle.url_byte.proofs.Laws.{percent-byte, quoted-byte, kept-byte}
 use borrow.Author.Needs.{needs}
 use Rattle.url_byte.proofs.put_url_byte.Statement.{statement}
 use Rattle.url_byte.proofs.put_url_byte.Tie as tie
@@ -9,7 +9,7 @@ returns : tie.Need-returns
 returns c = search (same, percent-byte, c .before .before .before .before .before .before .shared-slice-known2 .given)
 
 returns-2 : tie.Need-returns-2
-returns-2 c = search (same, amp-byte)
+returns-2 c = search (same, quoted-byte)
 
 returns-3 : tie.Need-returns-3
 returns-3 c = search (same, kept-byte)

@@ -10,10 +10,10 @@ use Rattle.write_footnote.proofs.put_address.Statement.{statement}
 use Rattle.write_footnote.proofs.put_address.Tie as tie
 
 abbrev Inv-loop : tie.InvT-loop
-Inv-loop label out₀ at c₀ end₀ out c end = Left out₀ at (addressOf label) out end (addressAt label c)
+Inv-loop label apostrophes out₀ at c₀ end₀ out c end = Left out₀ at (addressOf apostrophes label) out end (addressAt apostrophes label c)
 
 abbrev μ-loop : tie.MeasureT-loop
-μ-loop label out₀ at c₀ end₀ out c end = length label - c .at
+μ-loop label apostrophes out₀ at c₀ end₀ out c end = length label - c .at
 
 loop-holds : tie.Need-loop-holds Inv-loop μ-loop
 loop-holds c = search (all, address-start)

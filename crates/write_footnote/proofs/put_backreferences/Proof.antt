@@ -10,10 +10,10 @@ use Rattle.write_footnote.proofs.put_backreferences.Statement.{statemen
 use Rattle.write_footnote.proofs.put_backreferences.Tie as tie
 
 abbrev Inv-loop : tie.InvT-loop
-Inv-loop label times out₀ at r₀ i₀ out r i = (i ≤ times) × Filled out₀ at (backreferences (addressOf label) i) out r
+Inv-loop label apostrophes times out₀ at r₀ i₀ out r i = (i ≤ times) × Filled out₀ at (backreferences (addressOf apostrophes label) i) out r
 
 abbrev μ-loop : tie.MeasureT-loop
-μ-loop label times out₀ at r₀ i₀ out r i = times - i
+μ-loop label apostrophes times out₀ at r₀ i₀ out r i = times - i
 
 loop-holds : tie.Need-loop-holds Inv-loop μ-loop
 loop-holds c = (search needs, search no-reference)

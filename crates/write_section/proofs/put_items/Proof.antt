@@ -8,10 +8,10 @@ use Rattle.write_section.proofs.put_items.Statement.{statement}
 use Rattle.write_section.proofs.put_items.Tie as tie
 
 abbrev Inv-loop : tie.InvT-loop
-Inv-loop k ending text work footnotes calls out₀ at n r₀ i₀ out r i = (n ≡ k .calls) × (length out ≡ length out₀) × Going k ending text work footnotes calls out₀ at i out r
+Inv-loop k fixed text work footnotes calls out₀ at n r₀ i₀ out r i = (n ≡ k .calls) × (length out ≡ length out₀) × Going k fixed text work footnotes calls out₀ at i out r
 
 abbrev μ-loop : tie.MeasureT-loop
-μ-loop k ending text work footnotes calls out₀ at n r₀ i₀ out r i = n - i
+μ-loop k fixed text work footnotes calls out₀ at n r₀ i₀ out r i = n - i
 
 loop-holds : tie.Need-loop-holds Inv-loop μ-loop
 loop-holds c = (search needs, search needs, search going-start)

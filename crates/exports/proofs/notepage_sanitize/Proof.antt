@@ -1,0 +1,13 @@
+-- The page's answer, told. Assumes nothing.
+use Rattle.sanitize_uri.specs.Url.{sanitizeOf}
+use Rattle.exports.proofs.Laws.{sanitizes}
+use borrow.Author.Needs.{needs}
+use Rattle.exports.proofs.notepage_sanitize.Statement.{statement}
+use Rattle.exports.proofs.notepage_sanitize.Tie as tie
+
+returns : tie.Need-returns
+returns c = search (sanitizes sanitizeOf, needs)
+
+pub notepage-sanitize-spec : {M : Type 1} → statement M
+notepage-sanitize-spec =
+    tie.close (tie.spec (λ c κs. search needs) (λ c κs. search needs) (λ c κs. search needs) (λ c. search needs) returns)
