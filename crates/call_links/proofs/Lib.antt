@@ -1,0 +1,5 @@
+mod Size
+mod Urls
+mod Laws
+pub mod Single
+pub mod Each

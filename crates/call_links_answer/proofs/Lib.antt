@@ -1,0 +1,4 @@
+pub mod Counts
+pub mod Good
+pub mod Laws
+pub mod Promise
