@@ -8,6 +8,9 @@ use Rattle.call_text_answer.proofs.Laws as W
 use Rattle.call_normalize.specs.declared.Normalized.{Normalized}
 use Rattle.call_normalize.specs.Normalized.{HasNormalized}
 use Rattle.call_normalize.proofs.Laws as N
+use Rattle.call_links_answer.specs.declared.Listed.{Listed}
+use Rattle.call_links_answer.specs.Listed.{Lists}
+use Rattle.call_links_answer.proofs.Promise as L
 use Rattle.check_list.specs.declared.Checked.{Checked}
 use Rattle.check_list.specs.Checked.{Checks}
 use Rattle.check_list.proofs.Numbers as C
@@ -36,6 +39,9 @@ texts p q = W.unique p q
 
 pub normalize : {url d e f : List ℕ} {r s : Normalized} → HasNormalized url d e r → HasNormalized url d f s → (r ≡ s) × (e ≡ f)
 normalize p q = N.unique p q
+
+pub «sanitize_links» : {text ends d l e m e′ m′ : List ℕ} {r s : Listed} → Lists text ends d l e m r → Lists text ends d l e′ m′ s → (r ≡ s) × (e ≡ e′) × (m ≡ m′)
+«sanitize_links» p q = L.unique p q
 
 pub check : {text events : List ℕ} {r s : Checked} → Checks text events r → Checks text events s → r ≡ s
 check p q = C.unique p q

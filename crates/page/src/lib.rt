@@ -17,6 +17,8 @@ use bundle_parts::Progress;
 use bundle_parts::Reader;
 use bundle_writer::Packed;
 use call_normalize::Normalized;
+ghost use Rattle.call_links_answer.specs.Listed.{Lists};
+use call_links_answer::Listed;
 use call_text_answer::Written;
 use encode_byte::Escaping;
 
@@ -53,6 +55,13 @@ pub fn normalize(url: &[u8], out: &mut [u8]) -> Normalized
     ensures { λ r. ⌜ HasNormalized (now (url .entry)) (now (out .entry)) (now (out .exit)) r ⌝ }
 {
     call_normalize::normalize(url, out)
+}
+
+// A whole list of links: one text with the places where its URLs end, and for each the length and the bytes that `sanitize_link` gives.
+pub fn sanitize_links(text: &[u8], ends: &[u32], out: &mut [u8], lengths: &mut [u32]) -> Listed
+    ensures { λ r. ⌜ Lists (now (text .entry)) (now (ends .entry)) (now (out .entry)) (now (lengths .entry)) (now (out .exit)) (now (lengths .exit)) r ⌝ }
+{
+    call_links::sanitize_links(text, ends, out, lengths)
 }
 
 // What a label is compared by.
