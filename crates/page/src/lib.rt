@@ -13,12 +13,12 @@ ghost use Rattle.check_list.specs.Checked.{Checks};
 ghost use Rattle.call_build.specs.Build.{Builds};
 ghost use Rattle.call_text_answer.specs.Written.{numberOf, valueOf, Wrote};
 ghost use Rattle.call_normalize.specs.Normalized.{HasNormalized};
+ghost use Rattle.call_links_answer.specs.Listed.{Lists};
 use bundle_parts::Progress;
 use bundle_parts::Reader;
 use bundle_writer::Packed;
-use call_normalize::Normalized;
-ghost use Rattle.call_links_answer.specs.Listed.{Lists};
 use call_links_answer::Listed;
+use call_normalize::Normalized;
 use call_text_answer::Written;
 use encode_byte::Escaping;
 

@@ -4,7 +4,7 @@ use markdown::util::encode::encode;
 use markdown::util::normalize_identifier::normalize_identifier;
 use markdown::util::sanitize_uri::{sanitize, sanitize_with_protocols};
 
-const LINK_SCHEMES: [&str; 6] = ["http", "https", "irc", "ircs", "mailto", "xmpp"];
+pub const LINK_SCHEMES: [&str; 6] = ["http", "https", "irc", "ircs", "mailto", "xmpp"];
 const IMAGE_SCHEMES: [&str; 2] = ["http", "https"];
 const BLANKS: [char; 4] = ['\t', '\n', '\r', ' '];
 

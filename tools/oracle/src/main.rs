@@ -20,6 +20,7 @@ mod given;
 mod grammar;
 mod growth;
 mod judge;
+mod links;
 mod lists;
 mod normalized;
 mod notes;
@@ -46,9 +47,9 @@ use families::LEAVES;
 use std::process::exit;
 use std::time::Instant;
 
-const USAGE: &str = "usage: oracle leaves|bundles|parts|writes|normalize|checks PROGRAM WORDS... | \
+const USAGE: &str = "usage: oracle leaves|bundles|parts|writes|normalize|links|checks PROGRAM WORDS... | \
     oracle builds all|FAMILY,.. PROGRAM WORDS... | oracle files PROGRAM WORDS... <PATHS | oracle alone | \
-    oracle vectors|build-vectors|part-vectors|write-vectors|normalize-vectors DIR | oracle references <NAMES | \
+    oracle vectors|build-vectors|part-vectors|write-vectors|normalize-vectors|link-vectors DIR | oracle references <NAMES | \
     oracle growth | \
     oracle export|compile OPTIONS ENDING";
 
@@ -61,6 +62,7 @@ fn main() {
         ["parts", _, ..] => exit(i32::from(cases::compare("parts", &part_families::FAMILIES, &words[1..]) > 0)),
         ["writes", _, ..] => exit(i32::from(writes::compare(&words[1..]) > 0)),
         ["normalize", _, ..] => exit(i32::from(normalized::compare(&words[1..]) > 0)),
+        ["links", _, ..] => exit(i32::from(cases::compare("links", &links::FAMILIES, &words[1..]) > 0)),
         ["checks", _, ..] => checks(&words[1..]),
         ["builds", families, _, ..] => builds(families, &words[2..]),
         ["files", _, ..] => exit(i32::from(files::compare(&words[1..]) > 0)),
@@ -71,6 +73,7 @@ fn main() {
         ["write-vectors", folder] => vectors::append(folder, &writes::fixed(), 700_000),
         ["normalize-vectors", folder] => vectors::append(folder, &normalized::stored(), 400_000),
         ["growth"] => growth::print(),
+        ["link-vectors", folder] => vectors::append(folder, &links::fixed(), 300_000),
         ["references"] => references::print(),
         ["export", bits, ending] => export::print(page_options(bits, ending)),
         ["compile", bits, ending] => compile::print(page_options(bits, ending)),
