@@ -5,7 +5,8 @@
  * caller, and a C caller must see to:
  *
  *   - Each pointer is valid for the length that stands behind it, for reading, or for writing where it is not const.
- *     NULL is right where the length is 0. No alignment is asked. A length is below 2^63.
+ *     NULL is right where the length is 0. A uint32_t is aligned as C has it; nothing else is asked. A length is below
+ *     2^63 bytes.
  *   - A buffer that is written overlaps no other buffer of the same call. Two buffers that are only read may overlap.
  *     Nothing tests this: a page whose output lies over its text is another page, and no refusal says so.
  *   - Nobody else writes to a lent buffer while the call runs, or reads one that the call writes.
@@ -49,8 +50,8 @@ extern "C" {
 
 /* The number is 0 where there is an answer, and the value is its length; else the number is the refusal's, and the
  * value its place: an event for 3 to 9 of a check or a build, counted from 0 (the count of events where the list ends
- * too early or the footnote section has no room), a block for 10 to 12, else 0. After a refusal every byte of a buffer
- * that the call writes is zero; behind an answer the rest of it is. */
+ * too early or the footnote section has no room), a URL of a list of links, counted from 0, a block for 10 to 12, else
+ * 0. After a refusal every byte of a buffer that the call writes is zero; behind an answer the rest of it is. */
 typedef struct notepage_answer {
     uint32_t number;
     size_t value;
@@ -158,7 +159,7 @@ notepage_reader notepage_end_bundle(notepage_reader reader, unsigned char *text,
  * fault of a block goes before a wrong length of the whole. An answer stays, whatever is fed behind it. */
 notepage_read notepage_bundle_so_far(notepage_reader reader);
 
-/* ---- Texts: refusals 1, 2, 9, all at 0 */
+/* ---- Texts: refusals 1, 2, 9, all at 0 where nothing else is said */
 
 /* A text made safe for HTML. */
 notepage_answer notepage_escape(const unsigned char *text, size_t text_length, uint32_t options, unsigned char *out,
@@ -178,6 +179,15 @@ notepage_answer notepage_sanitize_image(const unsigned char *url, size_t url_len
 /* A URL percent-encoded and no more: not safe for an attribute yet. */
 notepage_normalized notepage_normalize(const unsigned char *url, size_t url_length, unsigned char *out,
                                        size_t out_length);
+
+/* A whole list of links: one text, and the places where its URLs end, each of which begins where the one before ends.
+ * For each the bytes that notepage_sanitize_link writes, one behind the other, and their length; the value is the length
+ * of all. `lengths` has a place for each URL, or more. Refusals: 1 where text or `lengths` have a wrong length (at 0),
+ * or at the first URL that ends below the one before or past the text; 2; 3 at the first that ends inside a character;
+ * 9 at the first whose bytes have no room. After a refusal `lengths` is zero too. */
+notepage_answer notepage_sanitize_links(const unsigned char *text, size_t text_length, const uint32_t *ends,
+                                        size_t ends_count, unsigned char *out, size_t out_length, uint32_t *lengths,
+                                        size_t lengths_count);
 
 /* What a label is compared by. */
 notepage_answer notepage_identity(const unsigned char *label, size_t label_length, unsigned char *out,

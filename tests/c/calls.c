@@ -139,6 +139,50 @@ static void rooms(void)
     HOLDS(takes(normalized, ' ', NOTEPAGE_NORMALIZE_ROOM));
 }
 
+/* The list's answer, its bytes, and the lengths with zeros behind them in four places. */
+static int lists(const char *urls, const uint32_t *ends, size_t count, const char *bytes, const uint32_t *lengths)
+{
+    uint32_t places[5];
+    size_t n = strlen(urls), m = strlen(bytes), i;
+    memset(out, 0xA5, sizeof out);
+    memset(places, 0xA5, sizeof places);
+    if (!gives(notepage_sanitize_links((const unsigned char *)urls, n, ends, count, out, ROOM, places, 4), bytes, m, ROOM))
+        return 0;
+    for (i = 0; i < 4; i++)
+        if (places[i] != (i < count ? lengths[i] : 0)) return 0;
+    return out[ROOM] == 0xA5 && places[4] == 0xA5A5A5A5u;
+}
+
+/* A refusal, after which output and lengths are zero. */
+static int list_refused(const char *urls, const uint32_t *ends, size_t count, size_t room, size_t given, uint32_t number,
+                        size_t place)
+{
+    uint32_t places[4];
+    notepage_answer a;
+    memset(out, 0xA5, sizeof out);
+    memset(places, 0xA5, sizeof places);
+    a = notepage_sanitize_links((const unsigned char *)urls, strlen(urls), ends, count, out, room, places, given);
+    return is(a, number, place) && all_are(out, room, 0) && out[room] == 0xA5
+        && all_are((const unsigned char *)places, 4 * given, 0);
+}
+
+static void links(void)
+{
+    static const uint32_t ends[] = {2, 3, 3}, cut[] = {4, 6}, falls[] = {2, 1}, past[] = {1, 9}, none[] = {0, 0, 0};
+    static const uint32_t triple[] = {4, 1, 0}, scheme[] = {4, 0};
+    HOLDS(lists("%20", ends, 3, "%2520", triple));
+    HOLDS(lists("http:x", cut, 2, "http", scheme));
+    HOLDS(lists("javascript:x", none, 3, "", none));
+    HOLDS(lists("behind", NULL, 0, "", none));
+    HOLDS(is(notepage_sanitize_links(NULL, 0, NULL, 0, NULL, 0, NULL, 0), NOTEPAGE_OK, 0));
+    HOLDS(list_refused("abc", ends, 3, 9, 2, NOTEPAGE_WRONG_LENGTH, 0));
+    HOLDS(list_refused("abc", falls, 2, 9, 4, NOTEPAGE_WRONG_LENGTH, 1));
+    HOLDS(list_refused("abc", past, 2, 9, 4, NOTEPAGE_WRONG_LENGTH, 1));
+    HOLDS(list_refused("caf\xE9", ends, 3, 9, 4, NOTEPAGE_NOT_UTF8, 0));
+    HOLDS(list_refused("a\xC3\xA9", ends, 3, 9, 4, NOTEPAGE_FIELD, 0));
+    HOLDS(list_refused("aaa&", cut, 1, 7, 4, NOTEPAGE_NO_ROOM, 0));
+}
+
 /* Event records, one behind the other. */
 static unsigned char list[64 * NOTEPAGE_RECORD];
 static size_t listed;
@@ -392,6 +436,7 @@ int main(int count, char **words)
     texts();
     normal_urls();
     rooms();
+    links();
     one_paragraph();
     options();
     sample_note();

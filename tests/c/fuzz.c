@@ -11,7 +11,7 @@
 
 #define PAGE 4096u
 #define MOST 262144u
-#define BUFFERS 4
+#define BUFFERS 5
 
 static uint64_t state;
 
@@ -174,7 +174,7 @@ static int zero_behind(notepage_answer a, const unsigned char *out, size_t room)
 
 /* ---- the calls */
 
-static unsigned long answered[13][13];
+static unsigned long answered[14][13];
 
 static void count(size_t call, uint32_t number)
 {
@@ -212,6 +212,41 @@ static void try_normalize(void)
     plain.value = a.value;
     count(11, a.number);
     HOLDS(sum(s, n) == before && zero_behind(plain, out, room) && a.visits <= (a.number ? 0 : n));
+}
+
+/* Also: each URL by itself gives its bytes and its length. */
+static void singly(const unsigned char *s, const uint32_t *ends, const uint32_t *lengths, size_t urls,
+                   const unsigned char *out)
+{
+    size_t i, from = 0;
+    for (i = 0; i < urls; i++) {
+        unsigned char *one = placed(4, lengths[i]);
+        notepage_answer a = notepage_sanitize_link(s ? s + from : s, ends[i] - from, one, lengths[i]);
+        HOLDS(a.number == 0 && a.value == lengths[i] && (!lengths[i] || !memcmp(one, out, lengths[i])));
+        if (lengths[i]) out += lengths[i];
+        from = ends[i];
+    }
+}
+
+static void try_links(void)
+{
+    const seed *from = some_of(&texts);
+    size_t n, room, urls = below(20), lent = one_in(8) ? below(20) : urls + below(3), i, last = 0;
+    unsigned char *s = input(0, one_in(2), from->text, from->text_length, &n), *out = output(1, &room);
+    uint32_t *ends = (uint32_t *)(void *)placed(2, 4 * urls), *lengths = (uint32_t *)(void *)placed(3, 4 * lent);
+    uint64_t before = sum(s, n);
+    notepage_answer a;
+    for (i = 0; i < urls; i++) {
+        last += below((n - last) / 2 + 2);
+        if (last > n) last = n;
+        ends[i] = one_in(100) ? (uint32_t)random64() : (uint32_t)last;
+    }
+    a = notepage_sanitize_links(s, n, ends, urls, out, room, lengths, lent);
+    count(12, a.number);
+    HOLDS(sum(s, n) == before && zero_behind(a, out, room));
+    i = a.number ? 0 : urls;
+    HOLDS(i == lent || all_are((const unsigned char *)(lengths + i), 4 * (lent - i), 0));
+    if (!a.number) singly(s, ends, lengths, urls, out);
 }
 
 static void try_check(void)
@@ -342,7 +377,8 @@ static void report(unsigned long calls)
 {
     static const char *const names[] = {"escape",        "sanitize",  "sanitize_link",   "sanitize_image",
                                         "identity",      "check",     "build",           "read_bundle",
-                                        "write_bundle",  "in parts",  "a made-up state", "normalize"};
+                                        "write_bundle",  "in parts",  "a made-up state", "normalize",
+                                        "sanitize_links"};
     size_t call, number;
     for (call = 0; call < sizeof names / sizeof *names; call++) {
         printf("%-16s", names[call]);
@@ -363,7 +399,7 @@ int main(int words, char **word)
     make_arenas();
     learn(word[3]);
     for (i = 0; i < calls; i++) {
-        size_t call = below(12);
+        size_t call = below(13);
         if (call < 5) try_text(call);
         else if (call == 5) try_check();
         else if (call == 6) try_build();
@@ -371,7 +407,8 @@ int main(int words, char **word)
         else if (call == 8) try_write();
         else if (call == 9) try_parts();
         else if (call == 10) try_wild_state();
-        else try_normalize();
+        else if (call == 11) try_normalize();
+        else try_links();
         if (failed) break;
     }
     report(i);

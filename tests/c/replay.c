@@ -32,7 +32,8 @@ typedef struct head {
 } head;
 
 /* One byte more than is ever lent: the one behind what is lent stays as it was. */
-static unsigned char out[MOST_ROOM + 1], second[MOST_WORK + 1];
+static unsigned char out[MOST_ROOM + 1], second[4 * MOST_WORK + 1];
+static uint32_t ends[MOST_WORK / 4], lengths[MOST_WORK + 1];
 
 static uint32_t u32(const unsigned char *s)
 {
@@ -85,6 +86,19 @@ static head in_parts(const request *q)
     return of_read(notepage_bundle_so_far(r), q);
 }
 
+/* The ends are words of the request; the lengths, as little endian bytes, are the second buffer. */
+static head links(const request *q)
+{
+    size_t count = q->events_length / 4, i;
+    notepage_answer a;
+    for (i = 0; i < count; i++) ends[i] = u32(q->events + 4 * i);
+    memset(lengths, 0xA5, 4 * (q->work + 1));
+    a = notepage_sanitize_links(q->text, q->text_length, ends, count, out, q->room, lengths, q->work);
+    for (i = 0; i < 4 * q->work; i++) second[i] = (unsigned char)(lengths[i / 4] >> 8 * (i % 4));
+    HOLDS(lengths[q->work] == 0xA5A5A5A5u);
+    return plain(a, q->room, 4 * q->work);
+}
+
 static head made(const request *q)
 {
     const unsigned char *t = q->text, *e = q->events;
@@ -100,6 +114,7 @@ static head made(const request *q)
     case 8: return of_read(notepage_read_bundle(t, n, out, q->room, second, q->work), q);
     case 9: return plain(notepage_write_bundle(t, n, e, m, q->edition, out, q->room), q->room, 0);
     case 10: return in_parts(q);
+    case 11: return links(q);
     case 12: return of_normalized(notepage_normalize(t, n, out, q->room), q->room);
     default: give_up("a request of a call that this test does not know");
     }
@@ -151,11 +166,11 @@ static head measured(const request *q)
 static size_t compared(const request *q, const unsigned char *answer, size_t left)
 {
     head h;
-    size_t both = q->op == 8 || q->op == 10 ? q->work : 0, room = q->op == 6 ? 0 : q->room;
+    size_t both = q->op == 8 || q->op == 10 ? q->work : q->op == 11 ? 4 * q->work : 0, room = q->op == 6 ? 0 : q->room;
     memset(out, 0xA5, q->room + 1);
-    memset(second, 0xA5, q->work + 1);
+    memset(second, 0xA5, 4 * q->work + 1);
     h = measured(q);
-    if (out[q->room] != 0xA5 || second[q->work] != 0xA5) return 0;
+    if (out[q->room] != 0xA5 || second[q->op == 11 ? 4 * q->work : q->work] != 0xA5) return 0;
     if (h.number == NOTEPAGE_MORE) both = room = 0;
     if (left < 24 + room + both || !same_head(h, answer)) return 0;
     return memcmp(out, answer + 24, room) || memcmp(second, answer + 24 + room, both) ? 0 : 24 + room + both;

@@ -10,12 +10,13 @@ use Rattle.check_list.specs.Checked.{Checks}
 use Rattle.machine.specs.declared.Options.{Options}
 use Rattle.call_text_answer.specs.Written.{Wrote}
 use Rattle.call_normalize.specs.Normalized.{HasNormalized}
+use Rattle.call_links_answer.specs.Listed.{Lists}
 use Rattle.page.proofs.Unique as P
 use Rattle.exports.specs.declared.NotepageAnswer.{NotepageAnswer}
 use Rattle.exports.specs.declared.NotepageNormalized.{NotepageNormalized}
 use Rattle.exports.specs.declared.NotepageRead.{NotepageRead}
 use Rattle.exports.specs.declared.NotepageReader.{NotepageReader}
-use Rattle.exports.specs.Told.{Told, ofWritten, ofNormalized, ofChecked, ofBuilt, ofPacked, ofRead, ofProgress}
+use Rattle.exports.specs.Told.{Told, ofWritten, ofNormalized, ofListed, ofChecked, ofBuilt, ofPacked, ofRead, ofProgress}
 use Rattle.exports.specs.Reader.{readerOf}
 
 -- of one answer C is told one thing
@@ -28,6 +29,10 @@ texts p q = let u = P.texts (p .meets) (q .meets) in (same p q (u .0), u .1)
 
 pub «notepage_normalize» : {url d e f : List ℕ} {r s : NotepageNormalized} → Told (HasNormalized url d e) ofNormalized r → Told (HasNormalized url d f) ofNormalized s → (r ≡ s) × (e ≡ f)
 «notepage_normalize» p q = let u = P.normalize (p .meets) (q .meets) in (same p q (u .0), u .1)
+
+pub «notepage_sanitize_links» : {text ends d l e m e′ m′ : List ℕ} {r s : NotepageAnswer} → Told (Lists text ends d l e m) ofListed r → Told (Lists text ends d l e′ m′) ofListed s
+    → (r ≡ s) × (e ≡ e′) × (m ≡ m′)
+«notepage_sanitize_links» p q = let u = P.«sanitize_links» (p .meets) (q .meets) in (same p q (u .0), u .1, u .2)
 
 pub «notepage_check» : {text events : List ℕ} {r s : NotepageAnswer} → Told (Checks text events) ofChecked r → Told (Checks text events) ofChecked s → r ≡ s
 «notepage_check» p q = same p q (P.check (p .meets) (q .meets))

@@ -15,6 +15,8 @@ use Rattle.call_text_answer.specs.declared.Written.{Written}
 use Rattle.call_text_answer.specs.Written as W
 use Rattle.call_normalize.specs.declared.Normalized.{Normalized}
 use Rattle.call_normalize.specs.Normalized as N
+use Rattle.call_links_answer.specs.declared.Listed.{Listed}
+use Rattle.call_links_answer.specs.Listed as L
 use Rattle.exports.specs.declared.NotepageAnswer.{NotepageAnswer}
 use Rattle.exports.specs.declared.NotepageNormalized.{NotepageNormalized}
 use Rattle.exports.specs.declared.NotepageRead.{NotepageRead}
@@ -30,6 +32,9 @@ ofWritten w = record { number = W.numberOf w; value = W.valueOf w }
 
 abbrev pub ofNormalized : Normalized → NotepageNormalized
 ofNormalized n = record { number = N.numberOf n; value = N.valueOf n; visits = N.visitsIn n }
+
+abbrev pub ofListed : Listed → NotepageAnswer
+ofListed r = record { number = L.numberOf r; value = L.valueOf r }
 
 abbrev pub ofChecked : Checked → NotepageAnswer
 ofChecked c = record { number = C.numberOf c; value = C.placeOf c }

@@ -13,8 +13,9 @@ ghost use Rattle.check_list.specs.Checked.{Checks};
 ghost use Rattle.call_build.specs.Build.{Builds};
 ghost use Rattle.call_text_answer.specs.Written.{Wrote};
 ghost use Rattle.call_normalize.specs.Normalized.{HasNormalized};
-ghost use Rattle.exports.specs.Told.{Told, ofWritten, ofNormalized, ofChecked, ofBuilt, ofPacked, ofRead, ofProgress, isDone};
+ghost use Rattle.exports.specs.Told.{Told, ofWritten, ofNormalized, ofListed, ofChecked, ofBuilt, ofPacked, ofRead, ofProgress, isDone};
 ghost use Rattle.exports.specs.Given.{hasBit, endingOf, namesOf, optionsOf, escapingIn};
+ghost use Rattle.call_links_answer.specs.Listed.{Lists};
 ghost use Rattle.exports.specs.Reader.{refusalOf, answerOf, progressOf, knownOf, readerOf};
 use bundle_block::Refusal;
 use bundle_known::Known;
@@ -25,6 +26,7 @@ use bundle_read::Answer;
 use bundle_writer::Packed;
 use call_build_answer::Built;
 use call_normalize::Normalized;
+use call_links_answer::Listed;
 use call_text_answer::Written;
 use character_reference::Names;
 use check_list::Checked;
@@ -230,6 +232,20 @@ pub extern "C" fn notepage_normalize(url: &[u8], out: &mut [u8]) -> NotepageNorm
     tell_normalized(normalized)
 }
 
+// A whole list of links: one text with the places where its URLs end, and for each the length and the bytes of `notepage_sanitize_link`.
+#[no_mangle]
+pub extern "C" fn notepage_sanitize_links(
+    text: &[u8],
+    ends: &[u32],
+    out: &mut [u8],
+    lengths: &mut [u32],
+) -> NotepageAnswer
+    ensures { λ r. ⌜ Told (Lists (now (text .entry)) (now (ends .entry)) (now (out .entry)) (now (lengths .entry)) (now (out .exit)) (now (lengths .exit))) ofListed r ⌝ }
+{
+    let listed = page::sanitize_links(text, ends, out, lengths);
+    tell_listed(listed)
+}
+
 // What a label is compared by.
 #[no_mangle]
 pub extern "C" fn notepage_identity(label: &[u8], out: &mut [u8]) -> NotepageAnswer
@@ -257,6 +273,15 @@ fn tell_normalized(n: Normalized) -> NotepageNormalized
         number: call_normalize::number(n),
         value: call_normalize::value(n),
         visits: call_normalize::visits(n),
+    }
+}
+
+fn tell_listed(r: Listed) -> NotepageAnswer
+    ensures { λ a. ⌜ a ≡ ofListed r ⌝ }
+{
+    NotepageAnswer {
+        number: call_links_answer::number(r),
+        value: call_links_answer::value(r),
     }
 }
 

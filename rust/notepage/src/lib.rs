@@ -207,6 +207,33 @@ pub fn normalize<'a>(url: &[u8], out: &'a mut [u8]) -> Result<Normalized<'a>, Re
     Ok(Normalized { url, visits })
 }
 
+/// A whole list of links in one call: a text, and the places where its URLs end; each begins where the one before ends.
+/// What [`sanitize_link`] gives for each, one behind the other, and how long each is in `lengths`, which has a place for
+/// each URL or more. Refusals 1, 2, 3, 9; the place of 3, of 9 and of 1 for a wrong end is the URL's index.
+///
+/// ```
+/// let (mut out, mut lengths) = ([0; 64], [0; 3]);
+/// assert_eq!(notepage::sanitize_links(b"a&javascript:xb", &[2, 14, 15], &mut out, &mut lengths), Ok("a&amp;b"));
+/// assert_eq!(lengths, [6, 0, 1]);
+/// ```
+pub fn sanitize_links<'a>(
+    text: &[u8],
+    ends: &[u32],
+    out: &'a mut [u8],
+    lengths: &mut [u32],
+) -> Result<&'a str, Refusal> {
+    let (to, room) = (out.as_mut_ptr(), out.len());
+    let (places, count) = (lengths.as_mut_ptr(), lengths.len());
+    // SAFETY: all are slices, and those that are written overlap no other.
+    let answer = unsafe {
+        raw::notepage_sanitize_links(text.as_ptr(), text.len(), ends.as_ptr(), ends.len(), to, room, places, count)
+    };
+    let made = &out[..answer.length()?];
+    // SAFETY: `Lists` says that the text is UTF-8 where there is an answer, and that no URL ends inside a character, so
+    // that each is UTF-8 (`each-valid`, crates/call_links/proofs/Single.antt); with `url-valid`, as above, so are these bytes.
+    Ok(unsafe { core::str::from_utf8_unchecked(made) })
+}
+
 /// What a label is compared by, as bytes: that they are UTF-8 is no theorem yet. Refusals 1, 2, 9.
 ///
 /// ```

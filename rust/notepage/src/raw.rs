@@ -97,6 +97,16 @@ extern "C" {
     pub fn notepage_sanitize(url: *const u8, length: usize, out: *mut u8, out_length: usize) -> Answer;
     pub fn notepage_sanitize_link(url: *const u8, length: usize, out: *mut u8, out_length: usize) -> Answer;
     pub fn notepage_sanitize_image(url: *const u8, length: usize, out: *mut u8, out_length: usize) -> Answer;
+    pub fn notepage_sanitize_links(
+        text: *const u8,
+        text_length: usize,
+        ends: *const u32,
+        ends_count: usize,
+        out: *mut u8,
+        out_length: usize,
+        lengths: *mut u32,
+        lengths_count: usize,
+    ) -> Answer;
     pub fn notepage_normalize(url: *const u8, length: usize, out: *mut u8, out_length: usize) -> Normalized;
     pub fn notepage_identity(label: *const u8, length: usize, out: *mut u8, out_length: usize) -> Answer;
     pub fn notepage_version() -> u32;

@@ -4,8 +4,8 @@ use core::error::Error;
 use core::fmt;
 
 /// A refusal: a number from 1 to 12, and where. The place is an event for 3 to 9 of a check or a build (counted from
-/// 0; the count of events where the list ends too early or the footnote section has no room), a block for 10 to 12,
-/// else 0.
+/// 0; the count of events where the list ends too early or the footnote section has no room), a URL of a list of links
+/// (counted from 0), a block for 10 to 12, else 0.
 ///
 /// ```
 /// let refusal = notepage::check(b"caf\xe9", &[]).unwrap_err();
@@ -15,7 +15,7 @@ use core::fmt;
 pub struct Refusal {
     /// 1 to 12
     pub number: u32,
-    /// An event, a block, or 0
+    /// An event, a URL of a list, a block, or 0
     pub place: usize,
 }
 

@@ -216,6 +216,37 @@ fn no_text_needs_more_room_than_is_said() {
 }
 
 #[test]
+fn a_list_of_links_is_what_single_calls_give() {
+    let urls = ["https://a.b/c d", "", "javascript:x", "&", "\u{e9}", "a?b:c", "MAILTO:x"];
+    let mut text = String::new();
+    let ends: Vec<u32> = urls
+        .iter()
+        .map(|url| {
+            text.push_str(url);
+            text.len() as u32
+        })
+        .collect();
+    let (mut out, mut lengths, mut one) = ([1; 100], [1; 9], [0; 100]);
+    let singly: Vec<String> =
+        urls.iter().map(|url| sanitize_link(url.as_bytes(), &mut one).unwrap().to_string()).collect();
+    assert_eq!(sanitize_links(text.as_bytes(), &ends, &mut out, &mut lengths), Ok(&*singly.concat()));
+    let wanted: Vec<u32> = singly.iter().map(|url| url.len() as u32).chain([0, 0]).collect();
+    assert_eq!(lengths[..], wanted[..]);
+    assert_eq!(sanitize_links(b"", &[], &mut out, &mut []), Ok(""));
+    let refused_list = |text: &[u8], ends: &[u32], room: usize, number, place| {
+        let (mut out, mut lengths) = ([1; 20], [1; 3]);
+        assert_eq!(sanitize_links(text, ends, &mut out[..room], &mut lengths), Err(refused(number, place)));
+        assert!(out[..room].iter().all(|&byte| byte == 0) && lengths == [0; 3]);
+    };
+    refused_list(b"aaaa", &[1, 2, 3, 4], 9, 1, 0);
+    refused_list(b"aaaa", &[2, 1], 9, 1, 1);
+    refused_list(b"aaaa", &[2, 5], 9, 1, 1);
+    refused_list(b"aa\xff", &[1], 9, 2, 0);
+    refused_list("a\u{e9}".as_bytes(), &[1, 2], 9, 3, 1);
+    refused_list(b"&a", &[1, 2], 5, 9, 1);
+}
+
+#[test]
 fn threads_do_not_meet() {
     let (bundle, page) = (file("samples/note.bundle"), file("crates/notepage/stdout"));
     std::thread::scope(|scope| {
