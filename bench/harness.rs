@@ -60,6 +60,17 @@ extern "C" {
     fn leaf_sanitize(src: *const u8, n: usize, out: *mut u8, room: usize) -> u64;
     fn notepage_escape(src: *const u8, n: usize, options: u32, out: *mut u8, room: usize) -> Answer;
     fn notepage_sanitize(src: *const u8, n: usize, out: *mut u8, room: usize) -> Answer;
+    fn notepage_sanitize_link(src: *const u8, n: usize, out: *mut u8, room: usize) -> Answer;
+    fn notepage_sanitize_links(
+        text: *const u8,
+        n: usize,
+        ends: *const u32,
+        count: usize,
+        out: *mut u8,
+        room: usize,
+        lengths: *mut u32,
+        places: usize,
+    ) -> Answer;
     fn leaf_read_bundle(
         bundle: *const u8,
         n: usize,
@@ -200,6 +211,57 @@ fn sides(row: &Row) -> (Side<'_>, Side<'_>) {
     (Box::new(ours), Box::new(theirs))
 }
 
+/// Lists of 300 URLs, with how long they are at least and at most, as the release check has them.
+fn link_lists() -> Vec<(&'static str, Vec<String>)> {
+    let mut random = Random(SEED + 1);
+    let ascii = ["a", "b", "Z", "9", "-", ".", "/", "?", "=", "&", "%20"];
+    let other = ["a", "b", "Z", "9", "/", "=", " ", "é", "\u{20AC}", "\u{1F44D}"];
+    vec![
+        ("300 short URLs", urls(&mut random, 300, 20, 40, &ascii)),
+        ("300 ASCII URLs", urls(&mut random, 300, 20, 80, &ascii)),
+        ("300 other URLs", urls(&mut random, 300, 20, 80, &other)),
+    ]
+}
+
+/// One call for the list, and a call for each of its URLs, each with as much room as its answer takes. Both are first held
+/// to the same bytes.
+fn list_sides(urls: &[String]) -> (Side<'_>, Side<'_>) {
+    let text: Vec<u8> = urls.iter().flat_map(|url| url.bytes()).collect();
+    let mut end = 0;
+    let ends: Vec<u32> = urls
+        .iter()
+        .map(|url| {
+            end += url.len() as u32;
+            end
+        })
+        .collect();
+    let mut singly: Vec<(&[u8], Vec<u8>)> = Vec::new();
+    for url in urls.iter().map(|url| url.as_bytes()) {
+        let mut out = vec![0xA5; 5 * url.len()];
+        let length = unsafe { notepage_sanitize_link(url.as_ptr(), url.len(), out.as_mut_ptr(), out.len()) }.length();
+        out.truncate(length as usize);
+        singly.push((url, out));
+    }
+    let wanted: Vec<u8> = singly.iter().flat_map(|(_, out)| out.iter().copied()).collect();
+    let (mut out, mut lengths) = (vec![0xA5; wanted.len()], vec![u32::MAX; urls.len()]);
+    let listed = move |out: &mut [u8], lengths: &mut [u32]| unsafe {
+        let (to, places) = (out.as_mut_ptr(), lengths.as_mut_ptr());
+        let (from, count) = (black_box(text.as_ptr()), ends.len());
+        notepage_sanitize_links(from, text.len(), ends.as_ptr(), count, to, out.len(), places, lengths.len())
+    };
+    assert_eq!(listed(&mut out, &mut lengths).length(), wanted.len() as u64);
+    assert!(out == wanted && lengths.iter().zip(&singly).all(|(&length, (_, out))| length as usize == out.len()));
+    let ours = move || {
+        black_box(listed(&mut out, &mut lengths));
+    };
+    let theirs = move || {
+        for (url, out) in &mut singly {
+            black_box(unsafe { notepage_sanitize_link(black_box(url.as_ptr()), url.len(), out.as_mut_ptr(), out.len()) });
+        }
+    };
+    (Box::new(ours), Box::new(theirs))
+}
+
 /// How often a side is run in one measurement: for a millisecond or more.
 fn repeats(side: &mut Side) -> u32 {
     let mut count = 1;
@@ -255,6 +317,11 @@ fn main() {
         counted(&mut ours);
         counted(&mut theirs);
     }
+    for (_, urls) in link_lists() {
+        let (mut ours, mut theirs) = list_sides(&urls);
+        counted(&mut ours);
+        counted(&mut theirs);
+    }
     checker::count_rows();
 }
 
@@ -266,7 +333,8 @@ fn main() {
     print_table(&counts);
     print_links();
     print_reader();
-    checker::print_rows(counts.get(2 * rows().len()..).unwrap_or(&[]));
+    print_lists(counts.get(2 * rows().len()..).unwrap_or(&[]));
+    checker::print_rows(counts.get(2 * (rows().len() + link_lists().len())..).unwrap_or(&[]));
 }
 
 /// Tables of 64,000 kept bytes through the leaf, beside a plain copy of the same bytes and one byte by byte.
@@ -329,6 +397,23 @@ fn print_reader() {
         let (parts_time, whole_time, _) = measure(&mut reader(size), &mut reader(0));
         let ratio = parts_time / whole_time;
         println!("  in parts of {size:>5} bytes: {:>6.2} bytes/ns, {ratio:.2} of the time of the whole", bytes / parts_time);
+    }
+}
+
+/// A list of links in one call, beside a call for each URL.
+#[cfg(not(count))]
+fn print_lists(counts: &[f64]) {
+    for (k, (name, urls)) in link_lists().iter().enumerate() {
+        let (mut ours, mut theirs) = list_sides(urls);
+        let (our_time, their_time, median) = measure(&mut ours, &mut theirs);
+        let by_count = counts.get(2 * k..2 * k + 2).map_or("-".to_string(), |c| format!("{:.3}", c[0] / c[1]));
+        let bytes = urls.iter().map(String::len).sum::<usize>() as f64;
+        println!(
+            "{name} in one call: {:.3} ns/B, singly {:.3}: least {:.3}, median {median:.3}, instructions {by_count}",
+            our_time / bytes,
+            their_time / bytes,
+            our_time / their_time
+        );
     }
 }
 

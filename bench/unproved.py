@@ -29,6 +29,8 @@ lines = uses + [line for line in lines if not line.startswith("use ")]
 
 
 def argument(k, parameter):
+    if "[u32]" in parameter:
+        return f"&mut w{k}" if "&mut" in parameter else f"&w{k}[..n]"
     if "&" in parameter:
         return f"&mut b{k}" if "&mut" in parameter else "&input[..n]"
     return "n as u32" if "u32" in parameter else "n"
@@ -38,7 +40,7 @@ calls = []
 for name, parameters, result in exports:
     call = f"{name}({', '.join(argument(k, p) for k, p in enumerate(parameters))})"
     calls.append(f"let a = {call}; t = t ^ a.number as u64 ^ a.value as u64;" if result == ANSWER else f"t = t ^ {call} as u64;")
-buffers = "".join(f"let mut b{k} = [0u8; 49152];" for k in range(5))
+buffers = "".join(f"let mut b{k} = [0u8; 49152]; let mut w{k} = [0u32; 4096];" for k in range(5))
 main = f"""fn main() {{
     let mut input = [0u8; 4096]; {buffers}
     let n = io::read_full(libc::STDIN_FILENO, &mut input);
