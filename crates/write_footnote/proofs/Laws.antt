@@ -4,7 +4,7 @@ use mathlib.Core.Bool.{Bool, true, false, and-false}
 use mathlib.Core.List.{List, [], _∷_, _++_}
 use Prim.Native.Nat.{ℕ}
 use borrow.Author.Tests.{ne-eqb}
-use lib.ListN.{getD}
+use lib.ListN.{drop, getD}
 use Rattle.lent.specs.Bytes.{each, lower, mapped, isAlnum}
 use Rattle.lent.specs.Fill.{Filled}
 use Rattle.lent.proofs.Laws.{each-append}
@@ -35,6 +35,11 @@ written apostrophes b bs = encodeOf (escapingOf true apostrophes) (byteOf (mappe
 pub address-start : (apostrophes : Bool) (label : List ℕ) → addressAt apostrophes label atStart ≡ addressOf apostrophes label
 unfolding addressOf
 address-start apostrophes label = rw (left-start label refl)
+
+-- a byte before two others, as the code has it
+pub before-two : (apostrophes : Bool) (b x y : ℕ) {on : Escaping} → on ≡ escapingOf true apostrophes
+    → encodeOf (escapingOf true apostrophes) (byteOf (b ∷ x ∷ y ∷ [])) ≡ encodeOf on (byteOf (drop 0 (b ∷ x ∷ y ∷ [])))
+before-two apostrophes b x y p = rw p
 
 sanitize-more : (apostrophes : Bool) (b : ℕ) (bs : List ℕ) → sanitizeOf apostrophes (b ∷ bs) ≡ encodeOf (escapingOf true apostrophes) (byteOf (b ∷ bs)) ++ sanitizeOf apostrophes bs
 unfolding sanitizeOf normalizeOf encodeOf byteOf
