@@ -19,7 +19,7 @@ use crate::table;
 use crate::totals;
 use std::collections::BTreeMap;
 
-pub const FAMILIES: [(&str, fn(Ask)); 11] = [
+pub const FAMILIES: [(&str, fn(Ask)); 12] = [
     ("table", page_limits::table),
     ("limits", page_limits::limits),
     ("given", given::given),
@@ -31,10 +31,13 @@ pub const FAMILIES: [(&str, fn(Ask)); 11] = [
     ("damaged", damaged),
     ("references", references),
     ("notes", notes),
+    ("quotes", quotes),
 ];
 
 const DAMAGED_SEED: u64 = 20_251_121;
 const ROOMS_SEED: u64 = 20_251_122;
+const QUOTED_LISTS: usize = 40_000;
+const QUOTED_NOTES: usize = 60_000;
 
 fn grammar(words: &'static crate::grammar::Words, ask: Ask) {
     let mut random = Random(ROOMS_SEED);
@@ -48,6 +51,43 @@ fn notes(ask: Ask) {
             with_rooms(List::new(note, &records), options, &mut random, true, ask);
         }
     });
+}
+
+/// Lists from the grammar and notes with apostrophes, which are escaped.
+fn quotes(ask: Ask) {
+    let mut random = Random(ROOMS_SEED);
+    for words in [&PLAIN, &ANY] {
+        alone::grammar(words, QUOTED_LISTS, &mut |list, options| {
+            let text = list.text.iter().map(|&b| if b"*>?".contains(&b) { b'\'' } else { b }).collect();
+            with_rooms(List { text, ..list }, quoted(options), &mut random, false, ask);
+        });
+    }
+    let mut left = QUOTED_NOTES;
+    let mut places = Random(DAMAGED_SEED);
+    page_notes(&mut |note, options| {
+        if left > 0 {
+            left -= 1;
+            let note = with_apostrophes(note, &mut places);
+            if let Some(records) = export(&note) {
+                with_rooms(List::new(note, &records), quoted(options), &mut random, true, ask);
+            }
+        }
+    });
+}
+
+fn quoted(options: PageOptions) -> PageOptions {
+    PageOptions { bits: options.bits | 8, ..options }
+}
+
+/// One to four apostrophes at places from the seed.
+fn with_apostrophes(mut note: String, places: &mut Random) -> String {
+    for _ in 0..1 + places.below(4) {
+        let place = places.below(note.len() + 1);
+        if note.is_char_boundary(place) {
+            note.insert(place, '\'');
+        }
+    }
+    note
 }
 
 /// Each name, and what is nearly one, in each place that takes a reference, with both names options; 0 says the same as 5.

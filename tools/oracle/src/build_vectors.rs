@@ -45,6 +45,7 @@ pub fn chosen() -> Vec<Build> {
     }
     chosen.extend(limits());
     chosen.extend(references());
+    chosen.extend(quotes());
     complete(&chosen);
     chosen
 }
@@ -125,6 +126,15 @@ fn same(list: &List) -> bool {
 fn with_room(list: List, options: PageOptions, more: usize) -> Build {
     let length = whole_page(&list, options).map_or(20, |page| page.len());
     Build::new(list, options, length + more)
+}
+
+/// Lists with apostrophes, which are escaped, with each choice of the other options.
+fn quotes() -> Vec<Build> {
+    let mut random = Random(SEED);
+    let lists = (0..400).map(|k| some_list("lists", k + 1, &mut random));
+    let quoted = lists.map(|list| List { text: list.text.iter().map(|&b| if b"ab*>?".contains(&b) { b'\'' } else { b }).collect(), ..list });
+    let builds = quoted.enumerate().map(|(k, list)| with_room(list, PageOptions { bits: 8 + (k % 8) as u8, ..OFF }, k % 3));
+    builds.filter(|build| build.answer().is_ok() && build.size().0 + build.room <= LONGEST).take(60).collect()
 }
 
 /// All names together, and some in each place that takes a reference, with both names options.

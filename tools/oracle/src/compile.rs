@@ -76,11 +76,15 @@ mod records {
 pub mod changed {
     compiler!(markdown_changed);
     use markdown_changed::to_html::{Told, TOLD};
+    use markdown_changed::util::encode::APOSTROPHES;
 
-    /// The page, nothing where the crate panics, and the lengths behind each handled event up to there.
+    /// The page, nothing where the crate panics, and the lengths behind each handled event up to there. Bit 3 of the
+    /// options has apostrophes escaped.
     pub fn probe(text: &[u8], records: &[Record], options: PageOptions) -> (Option<String>, Vec<Told>) {
         forget();
+        APOSTROPHES.with(|on| on.set(options.bits & 8 == 8));
         let page = compile(text, records, options);
+        APOSTROPHES.with(|on| on.set(false));
         (page, TOLD.with(|told| told.take()))
     }
 
@@ -94,13 +98,21 @@ pub fn compile(text: &[u8], list: &[Record], options: PageOptions) -> Option<Str
     records::compile(text, list, options)
 }
 
+/// The crate's page, by the changed copy where apostrophes are escaped.
+pub fn page_of(text: &[u8], list: &[Record], options: PageOptions) -> Option<String> {
+    if options.bits & 8 == 8 {
+        return changed::probe(text, list, options).0;
+    }
+    compile(text, list, options)
+}
+
 /// For each line of standard input, a text and events in hexadecimal with a space between, the page as a line of JSON,
 /// null where the crate panics.
 pub fn print(options: PageOptions) {
     for line in std::io::stdin().lines() {
         let line = line.expect("standard input can be read");
         let (text, events) = line.split_once(' ').expect("a text, a space, events");
-        let page = compile(&from_hexadecimal(text), &record::read(&from_hexadecimal(events)), options);
+        let page = page_of(&from_hexadecimal(text), &record::read(&from_hexadecimal(events)), options);
         println!("{{\"page\": {}}}", json(page.map(String::into_bytes)));
     }
 }

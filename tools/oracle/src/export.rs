@@ -1,4 +1,5 @@
 // The exporter: a note in, its text and event records out, by the crate's own parser; and the crate's page of a note.
+use crate::compile::page_of;
 use crate::record::{self, names, Record, ENTER};
 use markdown::event::{Event, Kind, Name, Point};
 use markdown::mdast::AlignKind;
@@ -137,8 +138,13 @@ pub fn print(options: PageOptions) {
     for line in std::io::stdin().lines() {
         let bytes = from_hexadecimal(&line.expect("standard input can be read"));
         let note = String::from_utf8(bytes).expect("a note is UTF-8");
-        let events = json(export(&note).map(|records| record::written(&records)));
-        let page = json(page(&note, options).map(String::into_bytes));
+        let records = export(&note);
+        let page = match &records {
+            Some(records) if options.bits & 8 == 8 => page_of(note.as_bytes(), records, options),
+            _ => page(&note, options),
+        };
+        let events = json(records.map(|records| record::written(&records)));
+        let page = json(page.map(String::into_bytes));
         println!("{{\"text\": {}, \"events\": {events}, \"page\": {page}}}", json(Some(note.into_bytes())));
     }
 }

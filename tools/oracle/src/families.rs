@@ -1,7 +1,7 @@
 // The families of requests for the leaves. Each hands its requests to `ask`, in an order that never changes.
 use crate::judge::answer;
 use crate::random::Random;
-use crate::request::{Request, CALLS, ESCAPE, IDENTITY, IMAGE, LINK, SANITIZE};
+use crate::request::{Request, CALLS, ESCAPE, IDENTITY, IMAGE, LINK, QUOTED, SANITIZE};
 
 pub type Ask<'a> = &'a mut dyn FnMut(Request);
 
@@ -17,7 +17,7 @@ const fn family(name: &'static str, requests: fn(Ask)) -> Family {
 
 const RANDOM_SEED: u64 = 20_251_115;
 
-pub const LEAVES: [Family; 10] = [
+pub const LEAVES: [Family; 11] = [
     family("table", table),
     family("utf8", utf8),
     family("three", three),
@@ -27,6 +27,7 @@ pub const LEAVES: [Family; 10] = [
     family("places", places),
     family("runs", runs),
     Family { name: "random", seed: Some(RANDOM_SEED), requests: random },
+    family("quotes", quotes),
     family("limits", limits),
 ];
 
@@ -232,6 +233,30 @@ fn runs(ask: Ask) {
             }
         }
     }
+}
+
+/// The requests of five families again, with apostrophes escaped; and schemes with an apostrophe.
+fn quotes(ask: Ask) {
+    for requests in [short, rooms, schemes, places, random] {
+        requests(&mut |request| {
+            if request.op != IDENTITY {
+                ask(quoted(request));
+            }
+        });
+    }
+    for (op, options) in QUOTED {
+        for start in ["'", "javascript'", "http'", "mailto&#39;", "a'/b", "%27"] {
+            every("':/#;a", 4, &mut start.to_string(), &mut |text| ask(fitting(op, options, text, 1)));
+        }
+    }
+}
+
+/// The request with bit 3, and as much more or less room than its answer needs.
+fn quoted(request: Request) -> Request {
+    let needed = |options| answer(request.op, options, &request.text).map_or(0, |answer| answer.len());
+    let options = request.options | 8;
+    let room = (request.room + needed(options)).saturating_sub(needed(request.options));
+    Request { options, room, ..request }
 }
 
 /// Texts, URLs and labels from a seed: 100,000 for each call and option.

@@ -9,25 +9,27 @@ use crate::record::Record;
 const FILE: &str = include_str!("../../machine_pages.txt");
 const SEED: u64 = 20_251_125;
 
-/// Each with each choice of options and ending, and some with less room.
+/// Each with each choice of options, apostrophes escaped or not, and of ending, and some with less room.
 pub fn given(ask: Ask) {
     let mut random = Random(SEED);
     for (list, note) in lists() {
-        for (bits, ending) in (0..8).flat_map(|bits| (0..3).map(move |ending| (bits, ending))) {
+        for (bits, ending) in (0..16).flat_map(|bits| (0..3).map(move |ending| (bits, ending))) {
             with_rooms(list.clone(), PageOptions { bits, ending, names: 0 }, &mut random, note, ask);
         }
     }
 }
 
-/// Each with options off and LF, and with each option or ending by which its page differs from that.
+/// Each with options off and LF, with each option or ending by which its page differs from that, and with all on where apostrophes
+/// make a difference then.
 pub fn few() -> Vec<Build> {
     let options = |(bits, ending)| PageOptions { bits, ending, names: 0 };
     let mut builds = Vec::new();
     for (list, _) in lists() {
         let plain = whole_page(&list, options((0, 0)));
-        for other in [(0, 0), (1, 0), (2, 0), (4, 0), (7, 0), (0, 1), (0, 2)] {
+        for other in [(0, 0), (1, 0), (2, 0), (4, 0), (7, 0), (0, 1), (0, 2), (8, 0), (15, 0)] {
             let page = whole_page(&list, options(other));
-            if other == (0, 0) || page != plain {
+            let than = if other == (15, 0) { whole_page(&list, options((7, 0))) } else { plain.clone() };
+            if other == (0, 0) || page != than {
                 builds.push(Build::new(list.clone(), options(other), page.map_or(9, |page| page.len() + 1)));
             }
         }

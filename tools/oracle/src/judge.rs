@@ -65,7 +65,12 @@ pub fn answer(op: u8, options: u8, text: &[u8]) -> Result<Vec<u8>, u32> {
         IDENTITY => identity(text),
         _ => unreachable!("op {op} takes more than a text"),
     };
-    Ok(answer.into_bytes())
+    Ok(if escapes_apostrophes(op, options) { answer.replace('\'', "&#39;") } else { answer }.into_bytes())
+}
+
+/// Bit 3, where HTML is encoded. The crate keeps each apostrophe, and writes none of its own.
+fn escapes_apostrophes(op: u8, options: u8) -> bool {
+    options & 8 == 8 && op != IDENTITY && (op != ESCAPE || options & 1 == 1)
 }
 
 /// The identity is judged by RULES R6. The crate's function is held to it on every label of ASCII: the two agree

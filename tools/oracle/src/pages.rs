@@ -54,7 +54,8 @@ pub fn answer_of_run(text: &[u8], records: &[Record], options: PageOptions, room
     let (page, told) = changed::probe(text, records, options);
     if row(text, records) == Row::Same {
         let by_crate = compile(text, records, options);
-        assert_eq!(by_crate, page, "the crate and its changed copy differ on {}", escaped(text));
+        let (by_crate, by_copy) = if options.bits & 8 == 8 { (plain(&by_crate), plain(&page)) } else { (by_crate, page.clone()) };
+        assert_eq!(by_crate, by_copy, "the crate and its changed copy differ on {}", escaped(text));
     }
     for now in told {
         if now.captures > MOST_TOTAL || now.held > MOST_TOTAL || now.kept > MOST_TOTAL {
@@ -66,6 +67,11 @@ pub fn answer_of_run(text: &[u8], records: &[Record], options: PageOptions, room
     }
     let page = page.unwrap_or_else(|| panic!("the changed copy panics on {}", escaped(text)));
     Ok(if options.names == 4 { older(text, &page) } else { page }.into_bytes())
+}
+
+/// A page with each apostrophe as it is: the crate's and the changed copy's then are the same.
+fn plain(page: &Option<String>) -> Option<String> {
+    page.as_ref().map(|page| page.replace("&#39;", "'"))
 }
 
 /// The crate's page as the names of HTML 4.01 have it. Both brackets have three bytes in both, so no total and no room differs; the

@@ -8,6 +8,9 @@ pub const IDENTITY: u8 = 5;
 /// Each call with its options: escaping has encoding on and off.
 pub const CALLS: [(u8, u8); 6] = [(ESCAPE, 1), (ESCAPE, 0), (SANITIZE, 0), (LINK, 0), (IMAGE, 0), (IDENTITY, 0)];
 
+/// Those that escape, with apostrophes escaped too: bit 3. Without encoding it changes nothing.
+pub const QUOTED: [(u8, u8); 5] = [(ESCAPE, 9), (ESCAPE, 8), (SANITIZE, 8), (LINK, 8), (IMAGE, 8)];
+
 #[derive(Clone)]
 pub struct Request {
     pub op: u8,

@@ -15,7 +15,7 @@ use std::fs;
 const SEED: u64 = 7;
 /// How many requests of each family are taken for each call, option and number of the answer. The limits are chosen
 /// one by one.
-const TAKEN: [(&str, usize); 8] = [
+const TAKEN: [(&str, usize); 9] = [
     ("table", 52),
     ("utf8", 50),
     ("short", 120),
@@ -24,6 +24,7 @@ const TAKEN: [(&str, usize); 8] = [
     ("places", 25),
     ("runs", 40),
     ("random", 15),
+    ("quotes", 60),
 ];
 /// The texts of these families are longer only seldom; the files should stay small.
 const LONGEST: usize = 400;
