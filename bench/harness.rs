@@ -50,7 +50,7 @@ unsafe extern "C" fn page_escape(src: *const u8, n: usize, out: *mut u8, room: u
 }
 
 unsafe extern "C" fn page_sanitize(src: *const u8, n: usize, out: *mut u8, room: usize) -> u64 {
-    notepage_sanitize(src, n, out, room).length()
+    notepage_sanitize(src, n, 0, out, room).length()
 }
 
 // Each answers a length; the public calls may refuse, by a number above every length.
@@ -59,13 +59,14 @@ extern "C" {
     fn leaf_encode(src: *const u8, n: usize, out: *mut u8, room: usize) -> u64;
     fn leaf_sanitize(src: *const u8, n: usize, out: *mut u8, room: usize) -> u64;
     fn notepage_escape(src: *const u8, n: usize, options: u32, out: *mut u8, room: usize) -> Answer;
-    fn notepage_sanitize(src: *const u8, n: usize, out: *mut u8, room: usize) -> Answer;
-    fn notepage_sanitize_link(src: *const u8, n: usize, out: *mut u8, room: usize) -> Answer;
+    fn notepage_sanitize(src: *const u8, n: usize, options: u32, out: *mut u8, room: usize) -> Answer;
+    fn notepage_sanitize_link(src: *const u8, n: usize, options: u32, out: *mut u8, room: usize) -> Answer;
     fn notepage_sanitize_links(
         text: *const u8,
         n: usize,
         ends: *const u32,
         count: usize,
+        options: u32,
         out: *mut u8,
         room: usize,
         lengths: *mut u32,
@@ -238,7 +239,7 @@ fn list_sides(urls: &[String]) -> (Side<'_>, Side<'_>) {
     let mut singly: Vec<(&[u8], Vec<u8>)> = Vec::new();
     for url in urls.iter().map(|url| url.as_bytes()) {
         let mut out = vec![0xA5; 5 * url.len()];
-        let length = unsafe { notepage_sanitize_link(url.as_ptr(), url.len(), out.as_mut_ptr(), out.len()) }.length();
+        let length = unsafe { notepage_sanitize_link(url.as_ptr(), url.len(), 0, out.as_mut_ptr(), out.len()) }.length();
         out.truncate(length as usize);
         singly.push((url, out));
     }
@@ -247,7 +248,7 @@ fn list_sides(urls: &[String]) -> (Side<'_>, Side<'_>) {
     let listed = move |out: &mut [u8], lengths: &mut [u32]| unsafe {
         let (to, places) = (out.as_mut_ptr(), lengths.as_mut_ptr());
         let (from, count) = (black_box(text.as_ptr()), ends.len());
-        notepage_sanitize_links(from, text.len(), ends.as_ptr(), count, to, out.len(), places, lengths.len())
+        notepage_sanitize_links(from, text.len(), ends.as_ptr(), count, 0, to, out.len(), places, lengths.len())
     };
     assert_eq!(listed(&mut out, &mut lengths).length(), wanted.len() as u64);
     assert!(out == wanted && lengths.iter().zip(&singly).all(|(&length, (_, out))| length as usize == out.len()));

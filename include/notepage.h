@@ -98,6 +98,7 @@ typedef struct notepage_read {
 #define NOTEPAGE_ALLOW_DANGEROUS_HTML 1u     /* notepage_build: raw HTML of the note stays */
 #define NOTEPAGE_ALLOW_DANGEROUS_PROTOCOL 2u /* URLs of any scheme stay */
 #define NOTEPAGE_ALLOW_ANY_IMG_SRC 4u        /* URLs of images with any scheme stay */
+#define NOTEPAGE_ESCAPE_APOSTROPHES 8u       /* where HTML is encoded ' becomes &#39;; the sanitizers and escape too */
 #define NOTEPAGE_LF 0x000u                   /* the line ending of a page whose note has none: LF */
 #define NOTEPAGE_CR 0x100u                   /* CR (with the next one too: LF) */
 #define NOTEPAGE_CR_LF 0x200u                /* CR LF */
@@ -165,16 +166,17 @@ notepage_read notepage_bundle_so_far(notepage_reader reader);
 notepage_answer notepage_escape(const unsigned char *text, size_t text_length, uint32_t options, unsigned char *out,
                                 size_t out_length);
 
-/* A URL made safe for an attribute. */
-notepage_answer notepage_sanitize(const unsigned char *url, size_t url_length, unsigned char *out, size_t out_length);
+/* A URL made safe for an attribute. Of the options NOTEPAGE_ESCAPE_APOSTROPHES counts, in the next two as well. */
+notepage_answer notepage_sanitize(const unsigned char *url, size_t url_length, uint32_t options, unsigned char *out,
+                                  size_t out_length);
 
 /* The same for a link: empty for a scheme that is not http, https, irc, ircs, mailto or xmpp. */
-notepage_answer notepage_sanitize_link(const unsigned char *url, size_t url_length, unsigned char *out,
-                                       size_t out_length);
+notepage_answer notepage_sanitize_link(const unsigned char *url, size_t url_length, uint32_t options,
+                                       unsigned char *out, size_t out_length);
 
 /* The same for an image: empty for a scheme that is not http or https. */
-notepage_answer notepage_sanitize_image(const unsigned char *url, size_t url_length, unsigned char *out,
-                                        size_t out_length);
+notepage_answer notepage_sanitize_image(const unsigned char *url, size_t url_length, uint32_t options,
+                                        unsigned char *out, size_t out_length);
 
 /* A URL percent-encoded and no more: not safe for an attribute yet. */
 notepage_normalized notepage_normalize(const unsigned char *url, size_t url_length, unsigned char *out,
@@ -186,8 +188,8 @@ notepage_normalized notepage_normalize(const unsigned char *url, size_t url_leng
  * or at the first URL that ends below the one before or past the text; 2; 3 at the first that ends inside a character;
  * 9 at the first whose bytes have no room. After a refusal `lengths` is zero too. */
 notepage_answer notepage_sanitize_links(const unsigned char *text, size_t text_length, const uint32_t *ends,
-                                        size_t ends_count, unsigned char *out, size_t out_length, uint32_t *lengths,
-                                        size_t lengths_count);
+                                        size_t ends_count, uint32_t options, unsigned char *out, size_t out_length,
+                                        uint32_t *lengths, size_t lengths_count);
 
 /* What a label is compared by. */
 notepage_answer notepage_identity(const unsigned char *label, size_t label_length, unsigned char *out,

@@ -20,6 +20,41 @@ static notepage_answer bare(const unsigned char *s, size_t n, unsigned char *d, 
     return notepage_escape(s, n, 0, d, room);
 }
 
+static notepage_answer quoted(const unsigned char *s, size_t n, unsigned char *d, size_t room)
+{
+    return notepage_escape(s, n, NOTEPAGE_ENCODE | NOTEPAGE_ESCAPE_APOSTROPHES, d, room);
+}
+
+static notepage_answer url(const unsigned char *s, size_t n, unsigned char *d, size_t room)
+{
+    return notepage_sanitize(s, n, 0, d, room);
+}
+
+static notepage_answer link_url(const unsigned char *s, size_t n, unsigned char *d, size_t room)
+{
+    return notepage_sanitize_link(s, n, 0, d, room);
+}
+
+static notepage_answer image_url(const unsigned char *s, size_t n, unsigned char *d, size_t room)
+{
+    return notepage_sanitize_image(s, n, 0, d, room);
+}
+
+static notepage_answer quoted_url(const unsigned char *s, size_t n, unsigned char *d, size_t room)
+{
+    return notepage_sanitize(s, n, NOTEPAGE_ESCAPE_APOSTROPHES, d, room);
+}
+
+static notepage_answer quoted_link(const unsigned char *s, size_t n, unsigned char *d, size_t room)
+{
+    return notepage_sanitize_link(s, n, NOTEPAGE_ESCAPE_APOSTROPHES, d, room);
+}
+
+static notepage_answer quoted_image(const unsigned char *s, size_t n, unsigned char *d, size_t room)
+{
+    return notepage_sanitize_image(s, n, NOTEPAGE_ESCAPE_APOSTROPHES, d, room);
+}
+
 static int is(notepage_answer a, uint32_t number, size_t value)
 {
     return a.number == number && a.value == value;
@@ -62,22 +97,31 @@ static int refuses_texts(text_call call)
 
 static void texts(void)
 {
-    static const text_call all[] = {encoded, bare, notepage_sanitize, notepage_sanitize_link, notepage_sanitize_image,
-                                    notepage_identity};
+    static const text_call all[] = {encoded,  bare,      quoted,     url,         link_url,
+                                    image_url, quoted_url, quoted_link, quoted_image, notepage_identity};
     size_t i;
     HOLDS(turns(encoded, "a<b> & \"c\"", "a&lt;b&gt; &amp; &quot;c&quot;"));
     HOLDS(turns(bare, "a<b> & \"c\"", "a<b> & \"c\""));
     HOLDS(gives(notepage_escape((const unsigned char *)"\0", 1, NOTEPAGE_ENCODE, out, 4), "\xEF\xBF\xBD", 3, 4));
     HOLDS(gives(notepage_escape((const unsigned char *)"\0<", 2, 0, out, 4), "\xEF\xBF\xBD<", 4, 4));
     HOLDS(gives(notepage_escape((const unsigned char *)"<", 1, ~0u, out, 4), "&lt;", 4, 4));
-    HOLDS(turns(notepage_sanitize, "a b&c", "a%20b&amp;c"));
-    HOLDS(turns(notepage_sanitize, "%%20", "%25%20"));
-    HOLDS(turns(notepage_sanitize, "javascript:x", "javascript:x"));
-    HOLDS(turns(notepage_sanitize_link, "JAVASCRIPT:x", ""));
-    HOLDS(turns(notepage_sanitize_link, "mailto:a@b.c", "mailto:a@b.c"));
-    HOLDS(turns(notepage_sanitize_link, "a?b:c", "a?b:c"));
-    HOLDS(turns(notepage_sanitize_image, "mailto:a@b.c", ""));
-    HOLDS(turns(notepage_sanitize_image, "HTTPS:x", "HTTPS:x"));
+    HOLDS(turns(url, "a b&c", "a%20b&amp;c"));
+    HOLDS(turns(url, "%%20", "%25%20"));
+    HOLDS(turns(url, "javascript:x", "javascript:x"));
+    HOLDS(turns(link_url, "JAVASCRIPT:x", ""));
+    HOLDS(turns(link_url, "mailto:a@b.c", "mailto:a@b.c"));
+    HOLDS(turns(link_url, "a?b:c", "a?b:c"));
+    HOLDS(turns(image_url, "mailto:a@b.c", ""));
+    HOLDS(turns(image_url, "HTTPS:x", "HTTPS:x"));
+    HOLDS(turns(encoded, "it's", "it's"));
+    HOLDS(turns(quoted, "it's \"<\"", "it&#39;s &quot;&lt;&quot;"));
+    HOLDS(gives(notepage_escape((const unsigned char *)"'", 1, NOTEPAGE_ESCAPE_APOSTROPHES, out, 4), "'", 1, 4));
+    HOLDS(turns(url, "a'b", "a'b"));
+    HOLDS(turns(quoted_url, "a'b%27&", "a&#39;b%27&amp;"));
+    HOLDS(turns(quoted_link, "javascript':x", ""));
+    HOLDS(turns(quoted_link, "http:x'y", "http:x&#39;y"));
+    HOLDS(turns(quoted_image, "x'y:z", ""));
+    HOLDS(turns(quoted_image, "x'y/z:", "x&#39;y/z:"));
     HOLDS(turns(notepage_identity, " a\t\n b ", "A B"));
     for (i = 0; i < sizeof all / sizeof *all; i++) HOLDS(refuses_texts(all[i]));
 }
@@ -146,7 +190,7 @@ static int lists(const char *urls, const uint32_t *ends, size_t count, const cha
     size_t n = strlen(urls), m = strlen(bytes), i;
     memset(out, 0xA5, sizeof out);
     memset(places, 0xA5, sizeof places);
-    if (!gives(notepage_sanitize_links((const unsigned char *)urls, n, ends, count, out, ROOM, places, 4), bytes, m, ROOM))
+    if (!gives(notepage_sanitize_links((const unsigned char *)urls, n, ends, count, 0, out, ROOM, places, 4), bytes, m, ROOM))
         return 0;
     for (i = 0; i < 4; i++)
         if (places[i] != (i < count ? lengths[i] : 0)) return 0;
@@ -161,7 +205,7 @@ static int list_refused(const char *urls, const uint32_t *ends, size_t count, si
     notepage_answer a;
     memset(out, 0xA5, sizeof out);
     memset(places, 0xA5, sizeof places);
-    a = notepage_sanitize_links((const unsigned char *)urls, strlen(urls), ends, count, out, room, places, given);
+    a = notepage_sanitize_links((const unsigned char *)urls, strlen(urls), ends, count, 0, out, room, places, given);
     return is(a, number, place) && all_are(out, room, 0) && out[room] == 0xA5
         && all_are((const unsigned char *)places, 4 * given, 0);
 }
@@ -174,7 +218,7 @@ static void links(void)
     HOLDS(lists("http:x", cut, 2, "http", scheme));
     HOLDS(lists("javascript:x", none, 3, "", none));
     HOLDS(lists("behind", NULL, 0, "", none));
-    HOLDS(is(notepage_sanitize_links(NULL, 0, NULL, 0, NULL, 0, NULL, 0), NOTEPAGE_OK, 0));
+    HOLDS(is(notepage_sanitize_links(NULL, 0, NULL, 0, 0, NULL, 0, NULL, 0), NOTEPAGE_OK, 0));
     HOLDS(list_refused("abc", ends, 3, 9, 2, NOTEPAGE_WRONG_LENGTH, 0));
     HOLDS(list_refused("abc", falls, 2, 9, 4, NOTEPAGE_WRONG_LENGTH, 1));
     HOLDS(list_refused("abc", past, 2, 9, 4, NOTEPAGE_WRONG_LENGTH, 1));
@@ -275,6 +319,10 @@ static void options(void)
     HOLDS(shows("<b>", 0, "&lt;b&gt;"));
     HOLDS(shows("<b>", NOTEPAGE_ALLOW_DANGEROUS_HTML, "<b>"));
     HOLDS(shows("<b>", ~(uint32_t)NOTEPAGE_ALLOW_DANGEROUS_HTML, "&lt;b&gt;"));
+    listed = 0;
+    nested(35, 36, "<b c='d'>");
+    HOLDS(shows("<b c='d'>", NOTEPAGE_ESCAPE_APOSTROPHES, "&lt;b c=&#39;d&#39;&gt;"));
+    HOLDS(shows("<b c='d'>", NOTEPAGE_ALLOW_DANGEROUS_HTML | NOTEPAGE_ESCAPE_APOSTROPHES, "<b c='d'>"));
     media(45, "x:y");
     HOLDS(shows("x:y", 0, "<p><a href=\"\"></a></p>"));
     HOLDS(shows("x:y", NOTEPAGE_ALLOW_DANGEROUS_PROTOCOL, "<p><a href=\"x:y\"></a></p>"));

@@ -191,9 +191,9 @@ static void try_text(size_t call)
     notepage_answer a;
     switch (call) {
     case 0: a = notepage_escape(s, n, (uint32_t)random64(), out, room); break;
-    case 1: a = notepage_sanitize(s, n, out, room); break;
-    case 2: a = notepage_sanitize_link(s, n, out, room); break;
-    case 3: a = notepage_sanitize_image(s, n, out, room); break;
+    case 1: a = notepage_sanitize(s, n, (uint32_t)random64(), out, room); break;
+    case 2: a = notepage_sanitize_link(s, n, (uint32_t)random64(), out, room); break;
+    case 3: a = notepage_sanitize_image(s, n, (uint32_t)random64(), out, room); break;
     default: a = notepage_identity(s, n, out, room); break;
     }
     count(call, a.number);
@@ -215,13 +215,13 @@ static void try_normalize(void)
 }
 
 /* Also: each URL by itself gives its bytes and its length. */
-static void singly(const unsigned char *s, const uint32_t *ends, const uint32_t *lengths, size_t urls,
+static void singly(const unsigned char *s, const uint32_t *ends, uint32_t options, const uint32_t *lengths, size_t urls,
                    const unsigned char *out)
 {
     size_t i, from = 0;
     for (i = 0; i < urls; i++) {
         unsigned char *one = placed(4, lengths[i]);
-        notepage_answer a = notepage_sanitize_link(s ? s + from : s, ends[i] - from, one, lengths[i]);
+        notepage_answer a = notepage_sanitize_link(s ? s + from : s, ends[i] - from, options, one, lengths[i]);
         HOLDS(a.number == 0 && a.value == lengths[i] && (!lengths[i] || !memcmp(one, out, lengths[i])));
         if (lengths[i]) out += lengths[i];
         from = ends[i];
@@ -235,18 +235,19 @@ static void try_links(void)
     unsigned char *s = input(0, one_in(2), from->text, from->text_length, &n), *out = output(1, &room);
     uint32_t *ends = (uint32_t *)(void *)placed(2, 4 * urls), *lengths = (uint32_t *)(void *)placed(3, 4 * lent);
     uint64_t before = sum(s, n);
+    uint32_t options = (uint32_t)random64();
     notepage_answer a;
     for (i = 0; i < urls; i++) {
         last += below((n - last) / 2 + 2);
         if (last > n) last = n;
         ends[i] = one_in(100) ? (uint32_t)random64() : (uint32_t)last;
     }
-    a = notepage_sanitize_links(s, n, ends, urls, out, room, lengths, lent);
+    a = notepage_sanitize_links(s, n, ends, urls, options, out, room, lengths, lent);
     count(12, a.number);
     HOLDS(sum(s, n) == before && zero_behind(a, out, room));
     i = a.number ? 0 : urls;
     HOLDS(i == lent || all_are((const unsigned char *)(lengths + i), 4 * (lent - i), 0));
-    if (!a.number) singly(s, ends, lengths, urls, out);
+    if (!a.number) singly(s, ends, options, lengths, urls, out);
 }
 
 static void try_check(void)

@@ -62,7 +62,7 @@ static head of_read(notepage_read r, const request *q)
 static head build(const request *q)
 {
     static const uint32_t endings[] = {NOTEPAGE_LF, NOTEPAGE_CR, NOTEPAGE_CR_LF};
-    uint32_t options = q->bits & 7u;
+    uint32_t options = q->bits & 15u;
     notepage_answer a;
     options |= endings[q->ending % 3] | (q->names == 4 ? NOTEPAGE_HTML4 : NOTEPAGE_HTML5);
     a = notepage_build(q->text, q->text_length, q->events, q->events_length, options, out, q->room, second, q->work);
@@ -93,7 +93,7 @@ static head links(const request *q)
     notepage_answer a;
     for (i = 0; i < count; i++) ends[i] = u32(q->events + 4 * i);
     memset(lengths, 0xA5, 4 * (q->work + 1));
-    a = notepage_sanitize_links(q->text, q->text_length, ends, count, out, q->room, lengths, q->work);
+    a = notepage_sanitize_links(q->text, q->text_length, ends, count, q->bits, out, q->room, lengths, q->work);
     for (i = 0; i < 4 * q->work; i++) second[i] = (unsigned char)(lengths[i / 4] >> 8 * (i % 4));
     HOLDS(lengths[q->work] == 0xA5A5A5A5u);
     return plain(a, q->room, 4 * q->work);
@@ -104,10 +104,10 @@ static head made(const request *q)
     const unsigned char *t = q->text, *e = q->events;
     size_t n = q->text_length, m = q->events_length;
     switch (q->op) {
-    case 1: return plain(notepage_escape(t, n, q->bits & NOTEPAGE_ENCODE, out, q->room), q->room, 0);
-    case 2: return plain(notepage_sanitize(t, n, out, q->room), q->room, 0);
-    case 3: return plain(notepage_sanitize_link(t, n, out, q->room), q->room, 0);
-    case 4: return plain(notepage_sanitize_image(t, n, out, q->room), q->room, 0);
+    case 1: return plain(notepage_escape(t, n, q->bits, out, q->room), q->room, 0);
+    case 2: return plain(notepage_sanitize(t, n, q->bits, out, q->room), q->room, 0);
+    case 3: return plain(notepage_sanitize_link(t, n, q->bits, out, q->room), q->room, 0);
+    case 4: return plain(notepage_sanitize_image(t, n, q->bits, out, q->room), q->room, 0);
     case 5: return plain(notepage_identity(t, n, out, q->room), q->room, 0);
     case 6: return plain(notepage_check(t, n, e, m), 0, 0);
     case 7: return build(q);

@@ -16,6 +16,7 @@ A file named - is standard input. Options of a page:
   --allow-dangerous-html       raw HTML of the note stays
   --allow-dangerous-protocol   URLs of any scheme stay, javascript: too
   --allow-any-img-src          URLs of images with any scheme stay
+  --escape-apostrophes         ' becomes &#39; wherever the page's text is made safe
   --ending lf|cr|crlf          the line ending of a page whose note has none (lf)
   --names 4|5                  what &lang; and &rang; are: as in HTML 4.01, or in HTML5 (5)
   --room N                     the most bytes of a page (16777216)
@@ -105,6 +106,7 @@ fn take(found: &mut Asked, flag: &str, words: &mut impl Iterator<Item = OsString
         (Call::Page, "--allow-dangerous-html") => found.options.allow_dangerous_html = true,
         (Call::Page, "--allow-dangerous-protocol") => found.options.allow_dangerous_protocol = true,
         (Call::Page, "--allow-any-img-src") => found.options.allow_any_img_src = true,
+        (Call::Page, "--escape-apostrophes") => found.options.escape_apostrophes = true,
         (Call::Page, "--ending") => found.options.ending = ending(&value()?)?,
         (Call::Page, "--names") => found.options.names = names(&value()?)?,
         (Call::Page, "--room") => found.room = number(flag, &value()?)?,

@@ -37,7 +37,7 @@ mod refusal;
 #[cfg(feature = "alloc")]
 pub use builder::Builder;
 pub use bundle::{read_bundle, write_bundle, Bundle, BundleReader};
-pub use options::{Ending, Names, Options};
+pub use options::{Ending, Escaping, Names, Options};
 pub use position::{position, Position};
 pub use refusal::Refusal;
 
@@ -118,17 +118,19 @@ pub fn build<'a>(
     Ok(unsafe { core::str::from_utf8_unchecked(page) })
 }
 
-/// A text made safe for HTML; without `encoding` NUL alone is replaced. Refusals 1, 2, 9; no 9 where `out` has
+/// A text made safe for HTML; with escaping off NUL alone is replaced. Refusals 1, 2, 9; no 9 where `out` has
 /// [`ESCAPE_ROOM`] bytes for each of the text's.
 ///
 /// ```
+/// use notepage::Escaping;
 /// let mut out = [0; 5 * notepage::ESCAPE_ROOM];
-/// assert_eq!(notepage::escape(b"a < b", true, &mut out), Ok("a &lt; b"));
+/// assert_eq!(notepage::escape(b"a < b", Escaping::Html, &mut out), Ok("a &lt; b"));
+/// assert_eq!(notepage::escape(b"it's", Escaping::HtmlAndApostrophes, &mut out), Ok("it&#39;s"));
 /// ```
-pub fn escape<'a>(text: &[u8], encoding: bool, out: &'a mut [u8]) -> Result<&'a str, Refusal> {
+pub fn escape<'a>(text: &[u8], escaping: Escaping, out: &'a mut [u8]) -> Result<&'a str, Refusal> {
     // SAFETY: both are slices, and do not overlap.
     let answer =
-        unsafe { raw::notepage_escape(text.as_ptr(), text.len(), u32::from(encoding), out.as_mut_ptr(), out.len()) };
+        unsafe { raw::notepage_escape(text.as_ptr(), text.len(), escaping.bits(), out.as_mut_ptr(), out.len()) };
     let escaped = &out[..answer.length()?];
     // SAFETY: `Wrote` says that the text is UTF-8 where there is an answer, and that these bytes are `encodeOf` of it:
     // the theorem `encoded` (crates/machine_clean/proofs/Encoded.antt) says that they are UTF-8 then.
@@ -136,46 +138,52 @@ pub fn escape<'a>(text: &[u8], encoding: bool, out: &'a mut [u8]) -> Result<&'a 
 }
 
 /// A call of the library that makes a URL safe.
-type Sanitizes = unsafe extern "C" fn(*const u8, usize, *mut u8, usize) -> raw::Answer;
+type Sanitizes = unsafe extern "C" fn(*const u8, usize, u32, *mut u8, usize) -> raw::Answer;
 
-fn sanitized<'a>(call: Sanitizes, url: &[u8], out: &'a mut [u8]) -> Result<&'a str, Refusal> {
+/// The options of a URL.
+fn quoting(apostrophes: bool) -> u32 {
+    if apostrophes { options::APOSTROPHES } else { 0 }
+}
+
+fn sanitized<'a>(call: Sanitizes, url: &[u8], apostrophes: bool, out: &'a mut [u8]) -> Result<&'a str, Refusal> {
+    let options = quoting(apostrophes);
     // SAFETY: both are slices, and do not overlap.
-    let answer = unsafe { call(url.as_ptr(), url.len(), out.as_mut_ptr(), out.len()) };
+    let answer = unsafe { call(url.as_ptr(), url.len(), options, out.as_mut_ptr(), out.len()) };
     let made = &out[..answer.length()?];
     // SAFETY: `Wrote` says that the URL is UTF-8 where there is an answer, and what these bytes are of it: the theorem
     // `url-valid` (crates/machine_clean/proofs/Urls.antt) says that they are UTF-8 then, with protocols and without.
     Ok(unsafe { core::str::from_utf8_unchecked(made) })
 }
 
-/// A URL made safe for an attribute. Refusals 1, 2, 9; no 9 where `out` has [`SANITIZE_ROOM`] bytes for each of the
-/// URL's.
+/// A URL made safe for an attribute, with `'` escaped or not. Refusals 1, 2, 9; no 9 where `out` has
+/// [`SANITIZE_ROOM`] bytes for each of the URL's.
 ///
 /// ```
 /// let mut out = [0; 5 * notepage::SANITIZE_ROOM];
-/// assert_eq!(notepage::sanitize(b"a b&c", &mut out), Ok("a%20b&amp;c"));
+/// assert_eq!(notepage::sanitize(b"a b&c", false, &mut out), Ok("a%20b&amp;c"));
 /// ```
-pub fn sanitize<'a>(url: &[u8], out: &'a mut [u8]) -> Result<&'a str, Refusal> {
-    sanitized(raw::notepage_sanitize, url, out)
+pub fn sanitize<'a>(url: &[u8], apostrophes: bool, out: &'a mut [u8]) -> Result<&'a str, Refusal> {
+    sanitized(raw::notepage_sanitize, url, apostrophes, out)
 }
 
 /// The same for a link: empty for a scheme that is not http, https, irc, ircs, mailto or xmpp.
 ///
 /// ```
 /// let mut out = [0; 64];
-/// assert_eq!(notepage::sanitize_link(b"javascript:x", &mut out), Ok(""));
+/// assert_eq!(notepage::sanitize_link(b"javascript':x", true, &mut out), Ok(""));
 /// ```
-pub fn sanitize_link<'a>(url: &[u8], out: &'a mut [u8]) -> Result<&'a str, Refusal> {
-    sanitized(raw::notepage_sanitize_link, url, out)
+pub fn sanitize_link<'a>(url: &[u8], apostrophes: bool, out: &'a mut [u8]) -> Result<&'a str, Refusal> {
+    sanitized(raw::notepage_sanitize_link, url, apostrophes, out)
 }
 
 /// The same for an image: empty for a scheme that is not http or https.
 ///
 /// ```
 /// let mut out = [0; 64];
-/// assert_eq!(notepage::sanitize_image(b"mailto:x", &mut out), Ok(""));
+/// assert_eq!(notepage::sanitize_image(b"mailto:x", false, &mut out), Ok(""));
 /// ```
-pub fn sanitize_image<'a>(url: &[u8], out: &'a mut [u8]) -> Result<&'a str, Refusal> {
-    sanitized(raw::notepage_sanitize_image, url, out)
+pub fn sanitize_image<'a>(url: &[u8], apostrophes: bool, out: &'a mut [u8]) -> Result<&'a str, Refusal> {
+    sanitized(raw::notepage_sanitize_image, url, apostrophes, out)
 }
 
 /// A URL that was normalized.
@@ -213,21 +221,22 @@ pub fn normalize<'a>(url: &[u8], out: &'a mut [u8]) -> Result<Normalized<'a>, Re
 ///
 /// ```
 /// let (mut out, mut lengths) = ([0; 64], [0; 3]);
-/// assert_eq!(notepage::sanitize_links(b"a&javascript:xb", &[2, 14, 15], &mut out, &mut lengths), Ok("a&amp;b"));
-/// assert_eq!(lengths, [6, 0, 1]);
+/// let made = notepage::sanitize_links(b"a&javascript:xb", &[2, 14, 15], false, &mut out, &mut lengths);
+/// assert_eq!((made, lengths), (Ok("a&amp;b"), [6, 0, 1]));
 /// ```
 pub fn sanitize_links<'a>(
     text: &[u8],
     ends: &[u32],
+    apostrophes: bool,
     out: &'a mut [u8],
     lengths: &mut [u32],
 ) -> Result<&'a str, Refusal> {
-    let (to, room) = (out.as_mut_ptr(), out.len());
-    let (places, count) = (lengths.as_mut_ptr(), lengths.len());
+    let options = quoting(apostrophes);
+    let (from, urls, to, places) = (text.as_ptr(), ends.as_ptr(), out.as_mut_ptr(), lengths.as_mut_ptr());
+    let (room, count) = (out.len(), lengths.len());
     // SAFETY: all are slices, and those that are written overlap no other.
-    let answer = unsafe {
-        raw::notepage_sanitize_links(text.as_ptr(), text.len(), ends.as_ptr(), ends.len(), to, room, places, count)
-    };
+    let answer =
+        unsafe { raw::notepage_sanitize_links(from, text.len(), urls, ends.len(), options, to, room, places, count) };
     let made = &out[..answer.length()?];
     // SAFETY: `Lists` says that the text is UTF-8 where there is an answer, and that no URL ends inside a character, so
     // that each is UTF-8 (`each-valid`, crates/call_links/proofs/Single.antt); with `url-valid`, as above, so are these bytes.

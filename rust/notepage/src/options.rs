@@ -22,6 +22,32 @@ pub enum Names {
     Html5,
 }
 
+/// What becomes a character reference. NUL is replaced in any case.
+#[derive(Clone, Copy, Debug, Default, PartialEq, Eq)]
+pub enum Escaping {
+    /// Nothing.
+    Off,
+    /// `&`, `<`, `>` and `"`.
+    #[default]
+    Html,
+    /// `'` too.
+    HtmlAndApostrophes,
+}
+
+/// `'` is escaped.
+pub(crate) const APOSTROPHES: u32 = 8;
+
+impl Escaping {
+    /// The number that the library takes for it.
+    pub(crate) fn bits(self) -> u32 {
+        match self {
+            Escaping::Off => 0,
+            Escaping::Html => 1,
+            Escaping::HtmlAndApostrophes => 1 | APOSTROPHES,
+        }
+    }
+}
+
 /// The options of a build. By default nothing dangerous is allowed, lines end in LF and names are those of HTML5.
 #[derive(Clone, Copy, Debug, Default, PartialEq, Eq)]
 pub struct Options {
@@ -31,6 +57,8 @@ pub struct Options {
     pub allow_dangerous_protocol: bool,
     /// URLs of images with any scheme stay.
     pub allow_any_img_src: bool,
+    /// Where HTML is encoded `'` becomes `&#39;`, in URLs too.
+    pub escape_apostrophes: bool,
     /// The line ending of a page whose note has none.
     pub ending: Ending,
     /// Which HTML's names character references have.
@@ -49,8 +77,9 @@ impl Options {
             Names::Html5 => 0x00000,
             Names::Html4 => 0x10000,
         };
-        let allowed = [self.allow_dangerous_html, self.allow_dangerous_protocol, self.allow_any_img_src];
-        let allowed = (0..).zip(allowed).fold(0, |bits, (bit, on)| bits | u32::from(on) << bit);
-        allowed | ending | names
+        let flags =
+            [self.allow_dangerous_html, self.allow_dangerous_protocol, self.allow_any_img_src, self.escape_apostrophes];
+        let flags = (0..).zip(flags).fold(0, |bits, (bit, on)| bits | u32::from(on) << bit);
+        flags | ending | names
     }
 }

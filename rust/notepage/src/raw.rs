@@ -94,14 +94,27 @@ extern "C" {
     ) -> Reader;
     pub fn notepage_bundle_so_far(reader: Reader) -> Read;
     pub fn notepage_escape(text: *const u8, length: usize, options: u32, out: *mut u8, out_length: usize) -> Answer;
-    pub fn notepage_sanitize(url: *const u8, length: usize, out: *mut u8, out_length: usize) -> Answer;
-    pub fn notepage_sanitize_link(url: *const u8, length: usize, out: *mut u8, out_length: usize) -> Answer;
-    pub fn notepage_sanitize_image(url: *const u8, length: usize, out: *mut u8, out_length: usize) -> Answer;
+    pub fn notepage_sanitize(url: *const u8, length: usize, options: u32, out: *mut u8, out_length: usize) -> Answer;
+    pub fn notepage_sanitize_link(
+        url: *const u8,
+        length: usize,
+        options: u32,
+        out: *mut u8,
+        out_length: usize,
+    ) -> Answer;
+    pub fn notepage_sanitize_image(
+        url: *const u8,
+        length: usize,
+        options: u32,
+        out: *mut u8,
+        out_length: usize,
+    ) -> Answer;
     pub fn notepage_sanitize_links(
         text: *const u8,
         text_length: usize,
         ends: *const u32,
         ends_count: usize,
+        options: u32,
         out: *mut u8,
         out_length: usize,
         lengths: *mut u32,

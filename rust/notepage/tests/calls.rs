@@ -112,6 +112,9 @@ fn each_option_reaches_the_page() {
     assert_eq!(page("[a]x:y", &link(46), off), "<p><img src=\"\" alt=\"a\" /></p>");
     let source = Options { allow_any_img_src: true, ..off };
     assert_eq!(page("[a]x:y", &link(46), source), "<p><img src=\"x:y\" alt=\"a\" /></p>");
+    let quoted = Options { escape_apostrophes: true, ..off };
+    assert_eq!(page("[']x'y", &link(45), off), "<p><a href=\"x'y\">'</a></p>");
+    assert_eq!(page("[']x'y", &link(45), quoted), "<p><a href=\"x&#39;y\">&#39;</a></p>");
 
     let two = [paragraph(1), paragraph(1)].concat();
     for (ending, written) in [(Ending::Lf, "\n"), (Ending::Cr, "\r"), (Ending::CrLf, "\r\n")] {
@@ -166,17 +169,22 @@ fn a_block_of_another_edition_is_refused_as_soon_as_it_is_there() {
 #[test]
 fn texts_are_made_safe() {
     let mut out = [0; 100];
-    assert_eq!(escape(b"<\"&\0\">", true, &mut out), Ok("&lt;&quot;&amp;\u{FFFD}&quot;&gt;"));
-    assert_eq!(escape(b"<\0>", false, &mut out), Ok("<\u{FFFD}>"));
+    assert_eq!(escape(b"<\"&\0\">", Escaping::Html, &mut out), Ok("&lt;&quot;&amp;\u{FFFD}&quot;&gt;"));
+    assert_eq!(escape(b"<\0'>", Escaping::Off, &mut out), Ok("<\u{FFFD}'>"));
+    assert_eq!(escape(b"it's", Escaping::Html, &mut out), Ok("it's"));
+    assert_eq!(escape(b"it's", Escaping::HtmlAndApostrophes, &mut out), Ok("it&#39;s"));
     for (url, made) in [("%zz", "%zz"), ("%%20", "%25%20"), ("%2", "%252"), ("", ""), ("é", "%C3%A9")] {
-        assert_eq!(sanitize(url.as_bytes(), &mut out), Ok(made));
+        assert_eq!(sanitize(url.as_bytes(), false, &mut out), Ok(made));
     }
-    assert_eq!(sanitize_link(b"mailto:x", &mut out), Ok("mailto:x"));
-    assert_eq!(sanitize_image(b"HTTP:x", &mut out), Ok("HTTP:x"));
+    assert_eq!(sanitize_link(b"mailto:x", false, &mut out), Ok("mailto:x"));
+    assert_eq!(sanitize_image(b"HTTP:x", false, &mut out), Ok("HTTP:x"));
+    assert_eq!(sanitize(b"a'b%27", true, &mut out), Ok("a&#39;b%27"));
+    assert_eq!(sanitize_link(b"javascript':x", true, &mut out), Ok(""));
+    assert_eq!(sanitize_image(b"HTTP:x'y", true, &mut out), Ok("HTTP:x&#39;y"));
     assert_eq!(identity(b" A\t b ", &mut out), Ok(&b"A B"[..]));
-    assert_eq!(escape(b"\xff", true, &mut out), Err(refused(2, 0)));
-    assert_eq!(sanitize(b"a b", &mut out[..4]), Err(refused(9, 0)));
-    assert_eq!(sanitize(&[b'a'; MOST_TEXT + 1], &mut out), Err(refused(1, 0)));
+    assert_eq!(escape(b"\xff", Escaping::Html, &mut out), Err(refused(2, 0)));
+    assert_eq!(sanitize(b"a b", false, &mut out[..4]), Err(refused(9, 0)));
+    assert_eq!(sanitize(&[b'a'; MOST_TEXT + 1], false, &mut out), Err(refused(1, 0)));
 }
 
 #[test]
@@ -198,9 +206,9 @@ fn no_text_needs_more_room_than_is_said() {
     type Call = fn(&[u8], &mut [u8]) -> Result<usize, Refusal>;
     let calls: [(u8, usize, Call); 5] = [
         (b'"', ESCAPE_ROOM, |text, out| escape(text, true, out).map(str::len)),
-        (b'&', SANITIZE_ROOM, |url, out| sanitize(url, out).map(str::len)),
-        (b'&', SANITIZE_ROOM, |url, out| sanitize_link(url, out).map(str::len)),
-        (b'&', SANITIZE_ROOM, |url, out| sanitize_image(url, out).map(str::len)),
+        (b'&', SANITIZE_ROOM, |url, out| sanitize(url, true, out).map(str::len)),
+        (b'&', SANITIZE_ROOM, |url, out| sanitize_link(url, false, out).map(str::len)),
+        (b'&', SANITIZE_ROOM, |url, out| sanitize_image(url, true, out).map(str::len)),
         (b' ', NORMALIZE_ROOM, |url, out| normalize(url, out).map(|made| made.url.len())),
     ];
     for (byte, most, call) in calls {
@@ -217,7 +225,7 @@ fn no_text_needs_more_room_than_is_said() {
 
 #[test]
 fn a_list_of_links_is_what_single_calls_give() {
-    let urls = ["https://a.b/c d", "", "javascript:x", "&", "\u{e9}", "a?b:c", "MAILTO:x"];
+    let urls = ["https://a.b/c d", "", "javascript:x", "&", "\u{e9}", "a?b:c'd", "MAILTO:x"];
     let mut text = String::new();
     let ends: Vec<u32> = urls
         .iter()
@@ -228,14 +236,14 @@ fn a_list_of_links_is_what_single_calls_give() {
         .collect();
     let (mut out, mut lengths, mut one) = ([1; 100], [1; 9], [0; 100]);
     let singly: Vec<String> =
-        urls.iter().map(|url| sanitize_link(url.as_bytes(), &mut one).unwrap().to_string()).collect();
-    assert_eq!(sanitize_links(text.as_bytes(), &ends, &mut out, &mut lengths), Ok(&*singly.concat()));
+        urls.iter().map(|url| sanitize_link(url.as_bytes(), true, &mut one).unwrap().to_string()).collect();
+    assert_eq!(sanitize_links(text.as_bytes(), &ends, true, &mut out, &mut lengths), Ok(&*singly.concat()));
     let wanted: Vec<u32> = singly.iter().map(|url| url.len() as u32).chain([0, 0]).collect();
     assert_eq!(lengths[..], wanted[..]);
-    assert_eq!(sanitize_links(b"", &[], &mut out, &mut []), Ok(""));
+    assert_eq!(sanitize_links(b"", &[], false, &mut out, &mut []), Ok(""));
     let refused_list = |text: &[u8], ends: &[u32], room: usize, number, place| {
         let (mut out, mut lengths) = ([1; 20], [1; 3]);
-        assert_eq!(sanitize_links(text, ends, &mut out[..room], &mut lengths), Err(refused(number, place)));
+        assert_eq!(sanitize_links(text, ends, false, &mut out[..room], &mut lengths), Err(refused(number, place)));
         assert!(out[..room].iter().all(|&byte| byte == 0) && lengths == [0; 3]);
     };
     refused_list(b"aaaa", &[1, 2, 3, 4], 9, 1, 0);
