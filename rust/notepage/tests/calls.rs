@@ -205,7 +205,7 @@ fn a_url_is_normalized_and_its_visits_are_counted() {
 fn no_text_needs_more_room_than_is_said() {
     type Call = fn(&[u8], &mut [u8]) -> Result<usize, Refusal>;
     let calls: [(u8, usize, Call); 5] = [
-        (b'"', ESCAPE_ROOM, |text, out| escape(text, true, out).map(str::len)),
+        (b'"', ESCAPE_ROOM, |text, out| escape(text, Escaping::HtmlAndApostrophes, out).map(str::len)),
         (b'&', SANITIZE_ROOM, |url, out| sanitize(url, true, out).map(str::len)),
         (b'&', SANITIZE_ROOM, |url, out| sanitize_link(url, false, out).map(str::len)),
         (b'&', SANITIZE_ROOM, |url, out| sanitize_image(url, true, out).map(str::len)),
