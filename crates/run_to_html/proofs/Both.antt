@@ -30,7 +30,7 @@ use Rattle.run_pass.specs.declared.Passed.the-variants as P
 use Rattle.run_answer.specs.declared.Rendered.{Rendered}
 use Rattle.run_answer.specs.declared.Rendered.the-variants.{WorkFull, PageFull}
 use Rattle.run_next.specs.Reach.{run, Stands}
-use Rattle.run_pass.specs.Passing.{Refuses, Passes}
+use Rattle.run_pass.specs.Passing.{Passes}
 use Rattle.run_to_html.specs.Renders.{Answers, Renders}
 use Rattle.run_to_html.specs.Private.{Begun, Finishes, turnsFrom, FinishesAll}
 
@@ -41,26 +41,18 @@ goes-none (ends s) = refl
 
 module _ {text events : List ℕ} {o : Options} {b : Whole} {w w′ : World} {p : Passed} where
   -- refused in a pass, the run is refused
-  refused-first : {number place : ℕ} → Refuses text events (length (w .out)) (turnsLeft true text events o false 0) b w number place → (s v : State) → Stands text (length (w .out)) b w s → Goes (turnsFrom true text events o) s v
-      → run events (length (w .out)) (turnsFrom true text events o) s ≡ refused number place
-  refused-first k s v y g = k .refuses (turnsLeft false text events o false 0) s v y g
-
-  refused-second : {number place : ℕ} → Refuses text events (length (w .out)) (turnsLeft false text events o false 0) b w number place → (s v : State) → Stands text (length (w .out)) b w s → Goes (turnsFrom false text events o) s v
-      → run events (length (w .out)) (turnsFrom false text events o) s ≡ refused number place
-  refused-second k s v y g = let e = append-nil (turnsLeft false text events o false 0) in rw e at (k .refuses [] s v y (rw e g))
-
   module _ {place : EventIndex} {out : List ℕ} where
     pub first-work : p ≡ P.WorkFull place → Passes true text events o b w p w′ → FinishesAll true text events o b w out (WorkFull place)
-    first-work m x = let k = subst (λ q. Passes true text events o b w q w′) m x in record { finishes = λ s v y g l. refused-first (k .passes) s v y g }
+    first-work m x = let k = subst (λ q. Passes true text events o b w q w′) m x in record { finishes = λ s v y g l. k .passes .refuses (turnsLeft false text events o false 0) s v y g }
 
     pub first-page : p ≡ P.PageFull place → Passes true text events o b w p w′ → FinishesAll true text events o b w out (PageFull place)
-    first-page m x = let k = subst (λ q. Passes true text events o b w q w′) m x in record { finishes = λ s v y g l. refused-first (k .passes) s v y g }
+    first-page m x = let k = subst (λ q. Passes true text events o b w q w′) m x in record { finishes = λ s v y g l. k .passes .refuses (turnsLeft false text events o false 0) s v y g }
 
     pub second-work : p ≡ P.WorkFull place → Passes false text events o b w p w′ → FinishesAll false text events o b w out (WorkFull place)
-    second-work m x = let k = subst (λ q. Passes false text events o b w q w′) m x in record { finishes = λ s v y g l. refused-second (k .passes) s v y g }
+    second-work m x = let k = subst (λ q. Passes false text events o b w q w′) m x in record { finishes = λ s v y g l. let e = append-nil (turnsLeft false text events o false 0) in rw e at (k .passes .refuses [] s v y (rw e g)) }
 
     pub second-page : p ≡ P.PageFull place → Passes false text events o b w p w′ → FinishesAll false text events o b w out (PageFull place)
-    second-page m x = let k = subst (λ q. Passes false text events o b w q w′) m x in record { finishes = λ s v y g l. refused-second (k .passes) s v y g }
+    second-page m x = let k = subst (λ q. Passes false text events o b w q w′) m x in record { finishes = λ s v y g l. let e = append-nil (turnsLeft false text events o false 0) in rw e at (k .passes .refuses [] s v y (rw e g)) }
 
   module _ {c : Whole} {out : List ℕ} {r : Rendered} (m : p ≡ On c) (long : length (w′ .out) ≡ length (w .out)) where
     pub first-on : Passes true text events o b w p w′ → FinishesAll false text events o c w′ out r → FinishesAll true text events o b w out r
