@@ -61,6 +61,6 @@ module _ (text : List ℕ) (v : T (isUtf8 text)) (s : length text ≤ 64000) whe
 pub each-taken : (text ends : List ℕ) (places : ℕ) → takenOf text ends places ≡ Yes → Every IsTaken (urlsFrom text 0 ends)
 each-taken text ends places p = let g = good text ends places p in each-valid text (rw (g .valid) tt) (g .short) 0 ends refl (g .order) (g .whole)
 
-pub answers : {url d e : List ℕ} {r : Written} → IsTaken url → Wrote url (linkOf url) d e r → length (linkOf url) ≤ length d → r ≡ Length (length (linkOf url))
+pub answers : (on : Bool) {url d e : List ℕ} {r : Written} → IsTaken url → Wrote url (linkOf on url) d e r → length (linkOf on url) ≤ length d → r ≡ Length (length (linkOf on url))
 unfolding choose
-answers {url} {d} h w k = w .answer ∙ rw (le-ltb 64000 (length url) (h .0), is-true (isUtf8 url) (h .1), le-ltb (length d) (length (linkOf url)) k)
+answers on {url} {d} h w k = w .answer ∙ rw (le-ltb 64000 (length url) (h .0), is-true (isUtf8 url) (h .1), le-ltb (length d) (length (linkOf on url)) k)

@@ -25,9 +25,9 @@ urlsFrom text from (e ∷ es) = take (e - from) (drop from text) ∷ urlsFrom te
 
 -- ---- single calls that answered a length, and what they wrote, in order
 
-pub data Calls : List (List ℕ) → List ℕ → List ℕ → Type 0 where
-  none : Calls [] [] []
-  one : {url d e bytes lengths : List ℕ} {urls : List (List ℕ)} {n : ℕ} → Wrote url (linkOf url) d e (Length n) → Calls urls bytes lengths → Calls (url ∷ urls) (take n e ++ bytes) (n ∷ lengths)
+pub data Calls (on : Bool) : List (List ℕ) → List ℕ → List ℕ → Type 0 where
+  none : Calls on [] [] []
+  one : {url d e bytes lengths : List ℕ} {urls : List (List ℕ)} {n : ℕ} → Wrote url (linkOf on url) d e (Length n) → Calls on urls bytes lengths → Calls on (url ∷ urls) (take n e ++ bytes) (n ∷ lengths)
 
 answered : (x y z : Bool) (result e f g : List ℕ) (n : ℕ) → Length n ≡ (if x then TooLong else if not y then NotUtf8 else if z then NoRoom else Length (length result))
     → e ≡ (if x then f else if not y then f else if z then f else result ++ g) → (n ≡ length result) × (take n e ≡ result)
@@ -41,14 +41,14 @@ unfolding choose
 wrote-length {url} {result} {d} {e} {n} w =
     answered (ltb 64000 (length url)) (isUtf8 url) (ltb (length d) (length result)) result e (zeros (length d)) (zeros (length d - length result)) n (w .answer) (w .bytes)
 
-together : (text : List ℕ) (from : ℕ) (ends : List ℕ) {bytes lengths : List ℕ} → Calls (urlsFrom text from ends) bytes lengths
-    → (joined (linksFrom text from ends) ≡ bytes) × (lengthsOf (linksFrom text from ends) ≡ lengths)
-together text from [] none = (ap joined (links-none text from), ap lengthsOf (links-none text from))
-together text from (e ∷ es) (one w c) =
-    let i = together text e es c in
+together : (on : Bool) (text : List ℕ) (from : ℕ) (ends : List ℕ) {bytes lengths : List ℕ} → Calls on (urlsFrom text from ends) bytes lengths
+    → (joined (linksFrom on text from ends) ≡ bytes) × (lengthsOf (linksFrom on text from ends) ≡ lengths)
+together on text from [] none = (ap joined (links-none on text from), ap lengthsOf (links-none on text from))
+together on text from (e ∷ es) (one w c) =
+    let i = together on text e es c in
     let k = wrote-length w in (
-      ap joined (links-first text from e es) ∙ ap₂ (λ (s t : List ℕ). s ++ t) (sym (k .1)) (i .0),
-      ap lengthsOf (links-first text from e es) ∙ ap₂ (λ (n : ℕ) (t : List ℕ). n ∷ t) (sym (k .0)) (i .1),
+      ap joined (links-first on text from e es) ∙ ap₂ (λ (s t : List ℕ). s ++ t) (sym (k .1)) (i .0),
+      ap lengthsOf (links-first on text from e es) ∙ ap₂ (λ (n : ℕ) (t : List ℕ). n ∷ t) (sym (k .0)) (i .1),
     )
 
 -- a list's answer that is a length is the last case
@@ -64,16 +64,16 @@ last false false false true false true i j k n m a b p = let z : _≡_ {A = ℕ}
 last false false false true false false i j k n m a b p = refl
 
 -- what the list's call left is what single calls wrote, in order, with zeros behind
-pub single-calls : {text ends d l e m bytes lengths : List ℕ} {n : ℕ} → Lists text ends d l e m (L.Length n) → Calls (urlsFrom text 0 ends) bytes lengths → (e ≡ filled d bytes) × (m ≡ filled l lengths)
+pub single-calls : {on : Bool} {text ends d l e m bytes lengths : List ℕ} {n : ℕ} → Lists on text ends d l e m (L.Length n) → Calls on (urlsFrom text 0 ends) bytes lengths → (e ≡ filled d bytes) × (m ≡ filled l lengths)
 unfolding C.choose
-single-calls {text} {ends} {d} {l} {n = n} p c =
-    let i = together text 0 ends c in
+single-calls {on} {text} {ends} {d} {l} {n = n} p c =
+    let i = together on text 0 ends c in
     let at : (f g : List ℕ)
-    → C.choose text ends (length d) (length l) f (λ k. f) f (λ k. f) (λ k. f) g ≡ g =
+    → C.choose on text ends (length d) (length l) f (λ k. f) f (λ k. f) (λ k. f) g ≡ g =
     λ f g. last (ltb 64000 (length text)) (ltb (length l) (length ends)) (ltb (ordered (length text) 0 ends) (length ends)) (isUtf8 text) (ltb (uncut text ends) (length ends))
-    (ltb (fitting (length d) (linksFrom text 0 ends)) (length ends)) (ordered (length text) 0 ends) (uncut text ends) (fitting (length d) (linksFrom text 0 ends))
-    n (length (joined (linksFrom text 0 ends))) f g (p .answer)
+    (ltb (fitting (length d) (linksFrom on text 0 ends)) (length ends)) (ordered (length text) 0 ends) (uncut text ends) (fitting (length d) (linksFrom on text 0 ends))
+    n (length (joined (linksFrom on text 0 ends))) f g (p .answer)
     in (
-      p .bytes ∙ at (zeros (length d)) (filled d (joined (linksFrom text 0 ends))) ∙ ap (filled d) (i .0),
-      p .lengths ∙ at (zeros (length l)) (filled l (lengthsOf (linksFrom text 0 ends))) ∙ ap (filled l) (i .1),
+      p .bytes ∙ at (zeros (length d)) (filled d (joined (linksFrom on text 0 ends))) ∙ ap (filled d) (i .0),
+      p .lengths ∙ at (zeros (length l)) (filled l (lengthsOf (linksFrom on text 0 ends))) ∙ ap (filled l) (i .1),
     )

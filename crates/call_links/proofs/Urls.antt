@@ -23,13 +23,13 @@ module _ (size from e : ℕ) (es : List ℕ) where
   unfolding ordered
   order-first h = order-case (ltb e from) (ltb size e) refl refl h
 
-pub links-first : (text : List ℕ) (from e : ℕ) (es : List ℕ) → linksFrom text from (e ∷ es) ≡ linkOf (take (e - from) (drop from text)) ∷ linksFrom text e es
+pub links-first : (on : Bool) (text : List ℕ) (from e : ℕ) (es : List ℕ) → linksFrom on text from (e ∷ es) ≡ linkOf on (take (e - from) (drop from text)) ∷ linksFrom on text e es
 unfolding linksFrom
-links-first text from e es = refl
+links-first on text from e es = refl
 
-pub links-none : (text : List ℕ) (from : ℕ) → linksFrom text from [] ≡ []
+pub links-none : (on : Bool) (text : List ℕ) (from : ℕ) → linksFrom on text from [] ≡ []
 unfolding linksFrom
-links-none text from = refl
+links-none on text from = refl
 
 module _ (room : ℕ) (s : List ℕ) (ss : List (List ℕ)) where
   pub fits-not : room < length s → fitting room (s ∷ ss) ≡ 0

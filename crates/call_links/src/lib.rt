@@ -8,26 +8,38 @@ use call_links_answer::Listed;
 use call_links_answer::Taken;
 
 // Makes each URL of a list safe for a link, as single calls would (RULES R22).
-pub fn sanitize_links(text: &[u8], ends: &[u32], out: &mut [u8], lengths: &mut [u32]) -> Listed
-    ensures { λ r. ⌜ Lists (now (text .entry)) (now (ends .entry)) (now (out .entry)) (now (lengths .entry)) (now (out .exit)) (now (lengths .exit)) r ⌝ }
+pub fn sanitize_links(
+    text: &[u8],
+    ends: &[u32],
+    apostrophes: bool,
+    out: &mut [u8],
+    lengths: &mut [u32],
+) -> Listed
+    ensures { λ r. ⌜ Lists apostrophes (now (text .entry)) (now (ends .entry)) (now (out .entry)) (now (lengths .entry)) (now (out .exit)) (now (lengths .exit)) r ⌝ }
 {
     match call_links_answer::take_list(text, ends, lengths.len()) {
         Taken::Refused(r) => call_links_answer::refuse(out, lengths, r),
-        Taken::Yes => write(text, ends, out, lengths),
+        Taken::Yes => write(text, ends, apostrophes, out, lengths),
     }
 }
 
 // A list that is taken: refused where a URL has no room, or written and ended.
-fn write(text: &[u8], ends: &[u32], out: &mut [u8], lengths: &mut [u32]) -> Listed
+fn write(
+    text: &[u8],
+    ends: &[u32],
+    apostrophes: bool,
+    out: &mut [u8],
+    lengths: &mut [u32],
+) -> Listed
     requires { ⌜ takenOf (now text) (now ends) (length (now lengths)) ≡ Taken.Yes ⌝ }
-    ensures { λ r. ⌜ Lists (now (text .entry)) (now (ends .entry)) (now (out .entry)) (now (lengths .entry)) (now (out .exit)) (now (lengths .exit)) r ⌝ }
+    ensures { λ r. ⌜ Lists apostrophes (now (text .entry)) (now (ends .entry)) (now (out .entry)) (now (lengths .entry)) (now (out .exit)) (now (lengths .exit)) r ⌝ }
 {
     let mut i: usize = 0;
     let mut from: usize = 0;
     let mut at: usize = 0;
     while i < ends.len() {
         let end = call_links_answer::wide(ends[i]);
-        let behind = append(&text[from..end], out, at);
+        let behind = append(&text[from..end], apostrophes, out, at);
         if out.len() < behind {
             return call_links_answer::refuse(out, lengths, Listed::NoRoom(i));
         }
@@ -40,8 +52,8 @@ fn write(text: &[u8], ends: &[u32], out: &mut [u8], lengths: &mut [u32]) -> List
 }
 
 // What a single call appends: the one place that sanitizes.
-fn append(url: &[u8], out: &mut [u8], at: usize) -> usize
-    ensures { λ r. ⌜ Filled (now (out .entry)) at (linkOf (now (url .entry))) (now (out .exit)) r ⌝ }
+fn append(url: &[u8], apostrophes: bool, out: &mut [u8], at: usize) -> usize
+    ensures { λ r. ⌜ Filled (now (out .entry)) at (linkOf apostrophes (now (url .entry))) (now (out .exit)) r ⌝ }
 {
-    sanitize_uri::sanitize_with_protocols(url, sanitize_uri::Protocols::Link, out, at)
+    sanitize_uri::sanitize_with_protocols(url, sanitize_uri::Protocols::Link, apostrophes, out, at)
 }

@@ -42,16 +42,16 @@ refused-case false false false false v n m t w p = let e : w ≡ NotUtf8 = cc in
 refused-case false false false true true n m t w p = let e : w ≡ Cut m = cc in (e, λ d s. rw e)
 refused-case false false false true false n m t w p = let z : _≡_ {A = ℕ} 0 1 = cc in absurd (omega arith)
 
-pub refused : {text ends d l e m : List ℕ} {t : Taken} {w r : Listed} → t ≡ takenOf text ends (length l) → t ≡ Refused w → Refuses d l w e m r → Lists text ends d l e m r
+pub refused : {on : Bool} {text ends d l e m : List ℕ} {t : Taken} {w r : Listed} → t ≡ takenOf text ends (length l) → t ≡ Refused w → Refuses d l w e m r → Lists on text ends d l e m r
 unfolding takenOf choose
-refused {text} {ends} {d} {l} {w = w} {r = r} p q h =
+refused {on} {text} {ends} {d} {l} {w = w} {r = r} p q h =
     let c =
     refused-case (ltb 64000 (length text)) (ltb (length l) (length ends)) (ltb (ordered (length text) 0 ends) (length ends)) (isUtf8 text) (ltb (uncut text ends) (length ends))
     (ordered (length text) 0 ends) (uncut text ends)
-    (if ltb (fitting (length d) (linksFrom text 0 ends)) (length ends) then NoRoom (fitting (length d) (linksFrom text 0 ends)) else Length (length (joined (linksFrom text 0 ends))))
+    (if ltb (fitting (length d) (linksFrom on text 0 ends)) (length ends) then NoRoom (fitting (length d) (linksFrom on text 0 ends)) else Length (length (joined (linksFrom on text 0 ends))))
     w (sym p ∙ q)
     in
-    told (h .answer ∙ c .0) (rw (h .answer) (h .bytes ∙ c .1 d (joined (linksFrom text 0 ends)))) (rw (h .answer) (h .lengths ∙ c .1 l (lengthsOf (linksFrom text 0 ends))))
+    told (h .answer ∙ c .0) (rw (h .answer) (h .bytes ∙ c .1 d (joined (linksFrom on text 0 ends)))) (rw (h .answer) (h .lengths ∙ c .1 l (lengthsOf (linksFrom on text 0 ends))))
 
 -- ---- a list that is taken
 
@@ -90,8 +90,8 @@ module _ (text ends : List ℕ) (places : ℕ) (p : takenOf text ends places ≡
       }
 
   -- room alone decides
-  module _ (room : ℕ) where
-    pub none-answers : {k : ℕ} → k ≡ fitting room (linksFrom text 0 ends) → k < length ends → NoRoom k ≡ answerOf text ends room places
+  module _ (on : Bool) (room : ℕ) where
+    pub none-answers : {k : ℕ} → k ≡ fitting room (linksFrom on text 0 ends) → k < length ends → NoRoom k ≡ answerOf on text ends room places
     unfolding choose
     none-answers {k} q h =
         let g = good in
@@ -105,7 +105,7 @@ module _ (text ends : List ℕ) (places : ℕ) (p : takenOf text ends places ≡
           lt-ltb k (length ends) h,
         )
 
-    pub all-answer : length ends ≤ fitting room (linksFrom text 0 ends) → Length (length (joined (linksFrom text 0 ends))) ≡ answerOf text ends room places
+    pub all-answer : length ends ≤ fitting room (linksFrom on text 0 ends) → Length (length (joined (linksFrom on text 0 ends))) ≡ answerOf on text ends room places
     unfolding choose
     all-answer h =
         let g = good in
@@ -115,5 +115,5 @@ module _ (text ends : List ℕ) (places : ℕ) (p : takenOf text ends places ≡
           le-ltb (ordered (length text) 0 ends) (length ends) (g .order),
           g .valid,
           le-ltb (uncut text ends) (length ends) (g .whole),
-          le-ltb (fitting room (linksFrom text 0 ends)) (length ends) h,
+          le-ltb (fitting room (linksFrom on text 0 ends)) (length ends) h,
         )

@@ -9,13 +9,13 @@ use Rattle.utf8.specs.Utf8.{inside}
 use Rattle.sanitize_uri.specs.Protocols.{linkSchemes, sanitizeWithProtocolsOf}
 
 -- what a single call with the link schemes makes of a URL
-abbrev pub linkOf : List ℕ → List ℕ
-linkOf url = sanitizeWithProtocolsOf linkSchemes url
+abbrev pub linkOf : (apostrophes : Bool) → List ℕ → List ℕ
+linkOf apostrophes url = sanitizeWithProtocolsOf apostrophes linkSchemes url
 
 -- what it makes of each URL: one begins where the one before it ends, the first at `from`
-unfoldable pub linksFrom : (text : List ℕ) (from : ℕ) (ends : List ℕ) → List (List ℕ)
-linksFrom text from [] = []
-linksFrom text from (e ∷ es) = linkOf (take (e - from) (drop from text)) ∷ linksFrom text e es
+unfoldable pub linksFrom : (apostrophes : Bool) (text : List ℕ) (from : ℕ) (ends : List ℕ) → List (List ℕ)
+linksFrom apostrophes text from [] = []
+linksFrom apostrophes text from (e ∷ es) = linkOf apostrophes (take (e - from) (drop from text)) ∷ linksFrom apostrophes text e es
 
 -- all of them, one behind the other; and how long each is
 abbrev pub joined : List (List ℕ) → List ℕ

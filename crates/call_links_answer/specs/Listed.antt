@@ -34,31 +34,31 @@ valueOf (Cut k) = k
 valueOf (NoRoom k) = k
 
 -- one of six, for `room` bytes and `places` lengths: 1 before 2 before 3 before 9, each over the whole list, before the result
-unfoldable pub choose : {A : Type 0} → (text ends : List ℕ) (room places : ℕ) → (size : A) (end : ℕ → A) (other : A) (cut none : ℕ → A) (written : A) → A
-choose text ends room places size end other cut none written =
+unfoldable pub choose : {A : Type 0} → (apostrophes : Bool) (text ends : List ℕ) (room places : ℕ) → (size : A) (end : ℕ → A) (other : A) (cut none : ℕ → A) (written : A) → A
+choose apostrophes text ends room places size end other cut none written =
     if ltb 64000 (length text) then size
     else if ltb places (length ends) then size
     else if ltb (ordered (length text) 0 ends) (length ends) then end (ordered (length text) 0 ends)
     else if not (isUtf8 text) then other
     else if ltb (uncut text ends) (length ends) then cut (uncut text ends)
-    else if ltb (fitting room (linksFrom text 0 ends)) (length ends) then none (fitting room (linksFrom text 0 ends))
+    else if ltb (fitting room (linksFrom apostrophes text 0 ends)) (length ends) then none (fitting room (linksFrom apostrophes text 0 ends))
     else written
 
 -- a buffer d with s in front and zeros behind
 abbrev pub filled : (d s : List ℕ) → List ℕ
 filled d s = s ++ zeros (length d - length s)
 
--- a call with this text and these ends, on the output d and the lengths l, answered r and left e and m
-pub record Lists (text ends d l e m : List ℕ) (r : Listed) : Type 0 where
-  pub answer : r ≡ choose text ends (length d) (length l) WrongSize WrongEnd NotUtf8 Cut NoRoom (Length (length (joined (linksFrom text 0 ends))))
-  pub number : numberOf r ≡ choose text ends (length d) (length l) 1 (λ k. 1) 2 (λ k. 3) (λ k. 9) 0
-  pub value : valueOf r ≡ choose text ends (length d) (length l) 0 (λ k. k) 0 (λ k. k) (λ k. k) (length (joined (linksFrom text 0 ends)))
+-- a call with this text and these ends, with apostrophes escaped or not, on the output d and the lengths l, answered r and left e and m
+pub record Lists (apostrophes : Bool) (text ends d l e m : List ℕ) (r : Listed) : Type 0 where
+  pub answer : r ≡ choose apostrophes text ends (length d) (length l) WrongSize WrongEnd NotUtf8 Cut NoRoom (Length (length (joined (linksFrom apostrophes text 0 ends))))
+  pub number : numberOf r ≡ choose apostrophes text ends (length d) (length l) 1 (λ k. 1) 2 (λ k. 3) (λ k. 9) 0
+  pub value : valueOf r ≡ choose apostrophes text ends (length d) (length l) 0 (λ k. k) 0 (λ k. k) (λ k. k) (length (joined (linksFrom apostrophes text 0 ends)))
   pub bytes : e
-      ≡ choose text ends (length d) (length l) (zeros (length d)) (λ k. zeros (length d)) (zeros (length d)) (λ k. zeros (length d)) (λ k. zeros (length d))
-      (filled d (joined (linksFrom text 0 ends)))
+      ≡ choose apostrophes text ends (length d) (length l) (zeros (length d)) (λ k. zeros (length d)) (zeros (length d)) (λ k. zeros (length d)) (λ k. zeros (length d))
+      (filled d (joined (linksFrom apostrophes text 0 ends)))
   pub lengths : m
-      ≡ choose text ends (length d) (length l) (zeros (length l)) (λ k. zeros (length l)) (zeros (length l)) (λ k. zeros (length l)) (λ k. zeros (length l))
-      (filled l (lengthsOf (linksFrom text 0 ends)))
+      ≡ choose apostrophes text ends (length d) (length l) (zeros (length l)) (λ k. zeros (length l)) (zeros (length l)) (λ k. zeros (length l)) (λ k. zeros (length l))
+      (filled l (lengthsOf (linksFrom apostrophes text 0 ends)))
 
 -- ---- said for the inner functions, no part of the promise
 

@@ -5,6 +5,7 @@ ghost use lib.ListN.{length};
 use bundle_parts::Progress;
 use bundle_parts::Reader;
 use bundle_writer::Packed;
+use call_links_answer::Listed;
 use character_reference::Names;
 use encode_byte::escaping_of;
 use machine::Ending;
@@ -18,6 +19,9 @@ const MOST_EVENTS: usize = 131072;
 const MOST_ROOM: usize = 524288;
 
 const MOST_WORK: usize = 131072;
+
+// How many words are written at once.
+const WORDS_AT_ONCE: usize = 1024;
 
 // A request's first 32 bytes, read.
 struct Request {
@@ -62,8 +66,7 @@ fn serve_one(input: &mut [u8], answer: &mut [u8], work: &mut [u8]) -> bool {
 
 fn is_op(op: u8) -> bool {
     match op {
-        1..=10 => true,
-        12 => true,
+        1..=12 => true,
         _ => false,
     }
 }
@@ -142,6 +145,7 @@ fn respond(r: Request, n: usize, input: &[u8], answer: &mut [u8], work: &mut [u8
         8 => read(r, &input[0..n], answer, work),
         9 => write_bundle(r, &input[0..n], &input[n..], answer),
         10 => read_parts(r, &input[0..n], &input[n..], answer, work),
+        11 => list(r, &input[0..n], &input[n..], answer),
         12 => normalize(r, &input[0..n], answer),
         _ => write(r, &input[0..n], answer),
     }
@@ -229,6 +233,103 @@ fn read_parts(
             }
             io::write_all(1, events)
         }
+    }
+}
+
+// A list of links, which takes and leaves words.
+fn list(r: Request, text: &[u8], ends: &[u8], answer: &mut [u8]) -> bool
+    requires { ⌜ 24 ≤ length (now answer) ⌝ }
+{
+    let mut words = [0u32; 32768];
+    let mut lengths = [0u32; 131072];
+    list_with(r, text, ends, answer, &mut words, &mut lengths)
+}
+
+// Takes the parts of the two lists that the request needs.
+fn list_with(
+    r: Request,
+    text: &[u8],
+    ends: &[u8],
+    answer: &mut [u8],
+    words: &mut [u32],
+    lengths: &mut [u32],
+) -> bool
+    requires { ⌜ 24 ≤ length (now answer) ⌝ }
+{
+    let places = r.work;
+    if lengths.len() < places {
+        return false;
+    }
+    let count = read_words(ends, words);
+    if words.len() < count {
+        return false;
+    }
+    list_words(r, text, &words[0..count], answer, &mut lengths[0..places])
+}
+
+// The lengths follow the output.
+fn list_words(r: Request, text: &[u8], ends: &[u32], answer: &mut [u8], lengths: &mut [u32]) -> bool
+    requires { ⌜ 24 ≤ length (now answer) ⌝ }
+{
+    let listed = call_links(
+        text,
+        ends,
+        has_apostrophes(r.options),
+        &mut answer[24..],
+        lengths,
+    );
+    put_head(
+        &mut answer[0..24],
+        listed_head(listed, r.room, lengths.len()),
+    );
+    if !io::write_all(1, answer) {
+        return false;
+    }
+    write_words(lengths)
+}
+
+// Words, little endian, as many as there is place for; how many they are.
+fn read_words(bytes: &[u8], words: &mut [u32]) -> usize {
+    let mut i = 0;
+    let mut at = 0;
+    while i < words.len() {
+        if bytes.len() - at < 4 {
+            return i;
+        }
+        words[i] = little::u32_at(bytes, at);
+        i += 1;
+        at += 4;
+    }
+    i
+}
+
+fn write_words(words: &[u32]) -> bool {
+    let mut bytes = [0u8; 4096];
+    write_through(&mut bytes, words)
+}
+
+// As many words at once as these bytes hold.
+fn write_through(bytes: &mut [u8], words: &[u32]) -> bool {
+    let mut i = 0;
+    while i < words.len() {
+        let n = bundle_block::least(WORDS_AT_ONCE, words.len() - i);
+        if bytes.len() < 4 * n {
+            return false;
+        }
+        put_words(bytes, &words[i..i + n]);
+        if !io::write_all(1, &bytes[0..4 * n]) {
+            return false;
+        }
+        i += n;
+    }
+    true
+}
+
+fn put_words(bytes: &mut [u8], words: &[u32]) {
+    let mut i = 0;
+    while i < words.len() {
+        put_u32(bytes, 4 * i, call_links_answer::wide(words[i]));
+        i += 1;
     }
 }
 
@@ -328,10 +429,27 @@ fn feed_parts(
     reader
 }
 
+fn call_links(
+    text: &[u8],
+    ends: &[u32],
+    apostrophes: bool,
+    out: &mut [u8],
+    lengths: &mut [u32],
+) -> Listed {
+    fill(out, 0xA5);
+    fill_words(lengths, 0xA5A5_A5A5);
+    page::sanitize_links(text, ends, apostrophes, out, lengths)
+}
+
+// Bit 3.
+fn has_apostrophes(options: u8) -> bool {
+    options / 8 % 2 == 1
+}
+
 fn call(r: Request, text: &[u8], out: &mut [u8]) -> call_text_answer::Written {
     fill(out, 0xA5);
     let op = r.op;
-    let apostrophes = r.options / 8 % 2 == 1;
+    let apostrophes = has_apostrophes(r.options);
     match op {
         1 => page::escape(text, escaping_of(r.options % 2 == 1, apostrophes), out),
         2 => page::sanitize(text, apostrophes, out),
@@ -385,6 +503,25 @@ fn normalized_head(n: call_normalize::Normalized, room: usize) -> Head {
         room,
         work: 0,
     }
+}
+
+fn listed_head(r: Listed, room: usize, places: usize) -> Head {
+    Head {
+        number: call_links_answer::number(r),
+        value: call_links_answer::value(r),
+        second: 0,
+        edition: 0,
+        room,
+        work: four_times(places),
+    }
+}
+
+// The bytes of so many words, which `answer_request` holds to `MOST_WORK`.
+fn four_times(words: usize) -> usize {
+    if MOST_WORK < words {
+        return 0;
+    }
+    4 * words
 }
 
 fn checked_head(c: check_list::Checked) -> Head {
@@ -457,6 +594,14 @@ fn fill(s: &mut [u8], b: u8) {
     let mut i = 0;
     while i < s.len() {
         s[i] = b;
+        i += 1;
+    }
+}
+
+fn fill_words(s: &mut [u32], x: u32) {
+    let mut i = 0;
+    while i < s.len() {
+        s[i] = x;
         i += 1;
     }
 }

@@ -1,5 +1,6 @@
 -- Two results that meet an export's promise are equal: from what `page` shows of its calls. Assumes nothing.
 use mathlib.Core.Path.{_≡_, sym, ap, _∙_}
+use mathlib.Core.Bool.{Bool}
 use mathlib.Core.List.{List}
 use Prim.Native.Nat.{ℕ}
 use Rattle.bundle_read.specs.Read.{HasRead}
@@ -30,7 +31,7 @@ texts p q = let u = P.texts (p .meets) (q .meets) in (same p q (u .0), u .1)
 pub «notepage_normalize» : {url d e f : List ℕ} {r s : NotepageNormalized} → Told (HasNormalized url d e) ofNormalized r → Told (HasNormalized url d f) ofNormalized s → (r ≡ s) × (e ≡ f)
 «notepage_normalize» p q = let u = P.normalize (p .meets) (q .meets) in (same p q (u .0), u .1)
 
-pub «notepage_sanitize_links» : {text ends d l e m e′ m′ : List ℕ} {r s : NotepageAnswer} → Told (Lists text ends d l e m) ofListed r → Told (Lists text ends d l e′ m′) ofListed s
+pub «notepage_sanitize_links» : {on : Bool} {text ends d l e m e′ m′ : List ℕ} {r s : NotepageAnswer} → Told (Lists on text ends d l e m) ofListed r → Told (Lists on text ends d l e′ m′) ofListed s
     → (r ≡ s) × (e ≡ e′) × (m ≡ m′)
 «notepage_sanitize_links» p q = let u = P.«sanitize_links» (p .meets) (q .meets) in (same p q (u .0), u .1, u .2)
 

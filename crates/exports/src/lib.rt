@@ -25,8 +25,8 @@ use bundle_parts::State;
 use bundle_read::Answer;
 use bundle_writer::Packed;
 use call_build_answer::Built;
-use call_normalize::Normalized;
 use call_links_answer::Listed;
+use call_normalize::Normalized;
 use call_text_answer::Written;
 use character_reference::Names;
 use check_list::Checked;
@@ -237,12 +237,13 @@ pub extern "C" fn notepage_normalize(url: &[u8], out: &mut [u8]) -> NotepageNorm
 pub extern "C" fn notepage_sanitize_links(
     text: &[u8],
     ends: &[u32],
+    options: u32,
     out: &mut [u8],
     lengths: &mut [u32],
 ) -> NotepageAnswer
-    ensures { λ r. ⌜ Told (Lists (now (text .entry)) (now (ends .entry)) (now (out .entry)) (now (lengths .entry)) (now (out .exit)) (now (lengths .exit))) ofListed r ⌝ }
+    ensures { λ r. ⌜ Told (Lists (hasBit 8 options) (now (text .entry)) (now (ends .entry)) (now (out .entry)) (now (lengths .entry)) (now (out .exit)) (now (lengths .exit))) ofListed r ⌝ }
 {
-    let listed = page::sanitize_links(text, ends, out, lengths);
+    let listed = page::sanitize_links(text, ends, has_bit(8, options), out, lengths);
     tell_listed(listed)
 }
 

@@ -1,5 +1,6 @@
 -- Two results that meet a public call's promise are equal: one law for each call, under its name. Assumes nothing.
 use mathlib.Core.Path.{_≡_, sym, _∙_}
+use mathlib.Core.Bool.{Bool}
 use mathlib.Core.List.{List}
 use Prim.Native.Nat.{ℕ}
 use Rattle.call_text_answer.specs.declared.Written.{Written}
@@ -40,7 +41,7 @@ texts p q = W.unique p q
 pub normalize : {url d e f : List ℕ} {r s : Normalized} → HasNormalized url d e r → HasNormalized url d f s → (r ≡ s) × (e ≡ f)
 normalize p q = N.unique p q
 
-pub «sanitize_links» : {text ends d l e m e′ m′ : List ℕ} {r s : Listed} → Lists text ends d l e m r → Lists text ends d l e′ m′ s → (r ≡ s) × (e ≡ e′) × (m ≡ m′)
+pub «sanitize_links» : {on : Bool} {text ends d l e m e′ m′ : List ℕ} {r s : Listed} → Lists on text ends d l e m r → Lists on text ends d l e′ m′ s → (r ≡ s) × (e ≡ e′) × (m ≡ m′)
 «sanitize_links» p q = L.unique p q
 
 pub check : {text events : List ℕ} {r s : Checked} → Checks text events r → Checks text events s → r ≡ s

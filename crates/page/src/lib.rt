@@ -58,10 +58,16 @@ pub fn normalize(url: &[u8], out: &mut [u8]) -> Normalized
 }
 
 // A whole list of links: one text with the places where its URLs end, and for each the length and the bytes that `sanitize_link` gives.
-pub fn sanitize_links(text: &[u8], ends: &[u32], out: &mut [u8], lengths: &mut [u32]) -> Listed
-    ensures { λ r. ⌜ Lists (now (text .entry)) (now (ends .entry)) (now (out .entry)) (now (lengths .entry)) (now (out .exit)) (now (lengths .exit)) r ⌝ }
+pub fn sanitize_links(
+    text: &[u8],
+    ends: &[u32],
+    apostrophes: bool,
+    out: &mut [u8],
+    lengths: &mut [u32],
+) -> Listed
+    ensures { λ r. ⌜ Lists apostrophes (now (text .entry)) (now (ends .entry)) (now (out .entry)) (now (lengths .entry)) (now (out .exit)) (now (lengths .exit)) r ⌝ }
 {
-    call_links::sanitize_links(text, ends, out, lengths)
+    call_links::sanitize_links(text, ends, apostrophes, out, lengths)
 }
 
 // What a label is compared by.

@@ -27,7 +27,9 @@ const ODD: [&[u8]; 12] = [
 // ---- item 7
 
 /// All bytes and each URL's length, or a refusal's number and place.
-fn list(text: &[u8], ends: &[u32], room: usize, places: usize) -> Result<(Vec<u8>, Vec<u32>), (u32, usize)> {
+fn list(case: &Case, room: usize) -> Result<(Vec<u8>, Vec<u32>), (u32, usize)> {
+    let Case { text, ends, quotes, places, .. } = case;
+    let places = *places;
     if text.len() > 64_000 || places < ends.len() {
         return Err((1, 0));
     }
@@ -42,6 +44,8 @@ fn list(text: &[u8], ends: &[u32], room: usize, places: usize) -> Result<(Vec<u8
     let (mut bytes, mut lengths) = (Vec::new(), Vec::new());
     for (url, &end) in ends.iter().enumerate() {
         let link = sanitize_with_protocols(&text[starts[url] as usize..end as usize], &LINK_SCHEMES);
+        // the crate keeps each apostrophe, and writes none of its own
+        let link = if *quotes { link.replace('\'', "&#39;") } else { link };
         if bytes.len() + link.len() > room {
             return Err((9, url));
         }
@@ -57,6 +61,8 @@ fn list(text: &[u8], ends: &[u32], room: usize, places: usize) -> Result<(Vec<u8
 pub struct Case {
     text: Vec<u8>,
     ends: Vec<u32>,
+    /// Bit 3: apostrophes are escaped.
+    quotes: bool,
     room: usize,
     places: usize,
 }
@@ -64,7 +70,7 @@ pub struct Case {
 impl Asked for Case {
     /// Adds the header of 32 bytes, the text and the ends.
     fn write(&self, to: &mut Vec<u8>) {
-        to.extend([11, 0, 0, 0]);
+        to.extend([11, 8 * u8::from(self.quotes), 0, 0]);
         let fields = [self.text.len(), 4 * self.ends.len(), self.room, self.places];
         to.extend(fields.iter().flat_map(|&field| (field as u32).to_le_bytes()));
         to.extend([0; 12]);
@@ -74,7 +80,7 @@ impl Asked for Case {
 
     /// The header of 24 bytes, the output and the lengths: zero behind what is written and after a refusal.
     fn expected(&self) -> Vec<u8> {
-        let (number, value, bytes, mut lengths) = match list(&self.text, &self.ends, self.room, self.places) {
+        let (number, value, bytes, mut lengths) = match list(self, self.room) {
             Ok((bytes, lengths)) => (0, bytes.len(), bytes, lengths),
             Err((number, place)) => (number, place, Vec::new(), Vec::new()),
         };
@@ -93,22 +99,33 @@ impl Asked for Case {
 
     fn shown(&self) -> String {
         let ends = &self.ends[..self.ends.len().min(20)];
-        format!("text {} ends {ends:?}, room {}, {} places", escaped(&self.text), self.room, self.places)
+        let quotes = if self.quotes { ", apostrophes" } else { "" };
+        format!("text {} ends {ends:?}{quotes}, room {}, {} places", escaped(&self.text), self.room, self.places)
     }
 }
 
 /// A case with room for every byte, and a place for each URL.
 fn enough(text: impl Into<Vec<u8>>, ends: &[u32]) -> Case {
-    let text = text.into();
-    let room = list(&text, ends, usize::MAX, ends.len()).map_or(8, |(bytes, _)| bytes.len());
-    Case { text, ends: ends.to_vec(), room, places: ends.len() }
+    let case = Case { text: text.into(), ends: ends.to_vec(), quotes: false, room: 0, places: ends.len() };
+    Case { room: needed(&case), ..case }
+}
+
+fn needed(case: &Case) -> usize {
+    list(case, usize::MAX).map_or(8, |(bytes, _)| bytes.len())
+}
+
+/// The case with apostrophes for each `a`, escaped, and as much more or less room than it needs.
+fn quoted(case: &Case) -> Case {
+    let text = case.text.iter().map(|&byte| if byte == b'a' { b'\'' } else { byte }).collect();
+    let quoted = Case { text, quotes: true, ..case.clone() };
+    Case { room: (case.room + needed(&quoted)).saturating_sub(needed(case)), ..quoted }
 }
 
 // ---- families of cases, each in an order that never changes
 
 type Ask<'a> = cases::Ask<'a, Case>;
 
-pub const FAMILIES: [Family<Case>; 7] = [
+pub const FAMILIES: [Family<Case>; 8] = [
     ("fixed", |ask| fixed().into_iter().for_each(ask)),
     ("cuts", cuts),
     ("rooms", rooms),
@@ -116,6 +133,7 @@ pub const FAMILIES: [Family<Case>; 7] = [
     ("sizes", sizes),
     ("many", many),
     ("random", random),
+    ("quotes", quotes),
 ];
 
 /// Every text of at most so many pieces.
@@ -177,9 +195,9 @@ fn order(ask: Ask) {
                 ends[first] = one;
                 ends[second] = other;
                 for (bytes, room) in [(text.as_bytes(), 100), (text.as_bytes(), 9), (&b"&\xFF&\x82&aa&aa"[..], 0)] {
-                    ask(Case { text: bytes.to_vec(), ends: ends.clone(), room, places: 8 });
+                    ask(Case { text: bytes.to_vec(), ends: ends.clone(), quotes: false, room, places: 8 });
                 }
-                ask(Case { text: text.into(), ends, room: 100, places: 7 });
+                ask(Case { text: text.into(), ends, quotes: false, room: 100, places: 7 });
             }
         }
     }
@@ -247,6 +265,13 @@ fn random(ask: Ask) {
     }
 }
 
+/// Three families again, with apostrophes.
+fn quotes(ask: Ask) {
+    for family in [cuts, rooms, random] {
+        family(&mut |case| ask(quoted(&case)));
+    }
+}
+
 // ---- the few that the gate replays
 
 /// What RULES R22 has for examples, then some of each kind.
@@ -267,12 +292,14 @@ pub fn fixed() -> Vec<Case> {
         Case { places: 5, room: 9, ..enough("ab", &[1, 2]) },
         enough("abc", &[1, 2]),
         enough(*b"ab\xC3", &[1, 2]),
+        quoted(&enough("a&ajavascripta:x", &[1, 3, 16])),
+        Case { room: 9, ..quoted(&enough("aa", &[1, 2])) },
     ];
     let mut random = Random(SEED + 2);
     let mut groups: [Vec<Case>; 10] = Default::default();
-    for family in [cuts, rooms, order, self::random] {
+    for family in [cuts, rooms, order, self::random, quotes] {
         family(&mut |case| {
-            let number = list(&case.text, &case.ends, case.room, case.places).map_or_else(|(number, _)| number, |_| 0);
+            let number = list(&case, case.room).map_or_else(|(number, _)| number, |_| 0);
             groups[number as usize].push(case);
         });
         for group in &mut groups {

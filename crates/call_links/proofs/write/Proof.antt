@@ -8,11 +8,11 @@ use Rattle.call_links.proofs.write.Statement.{statement}
 use Rattle.call_links.proofs.write.Tie as tie
 
 abbrev Inv-loop : tie.InvT-loop
-Inv-loop text ends out₀ lengths₀ i₀ from₀ at₀ out lengths i from at =
-    (i ≤ length ends) × (length out ≡ length out₀) × (length lengths ≡ length lengths₀) × Going text ends out₀ lengths₀ out lengths i from at
+Inv-loop text ends apostrophes out₀ lengths₀ i₀ from₀ at₀ out lengths i from at =
+    (i ≤ length ends) × (length out ≡ length out₀) × (length lengths ≡ length lengths₀) × Going apostrophes text ends out₀ lengths₀ out lengths i from at
 
 abbrev μ-loop : tie.MeasureT-loop
-μ-loop text ends out₀ lengths₀ i₀ from₀ at₀ out lengths i from at = length ends - i
+μ-loop text ends apostrophes out₀ lengths₀ i₀ from₀ at₀ out lengths i from at = length ends - i
 
 loop-holds : tie.Need-loop-holds Inv-loop μ-loop
 loop-holds c = search (begins, needs)
