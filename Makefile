@@ -1,7 +1,7 @@
 # The C library: `make library` proves and builds it, `make test` tries it, `make install PREFIX=..` puts it in place.
 # `make command` builds the command over it, which is installed along with it.
 PREFIX = /usr/local
-VERSION = 0.1.0
+VERSION = 0.2.0
 LIBRARY = target/staticlib/libexports.a
 COMMAND = rust/target/release/notepage
 to = $(DESTDIR)$(PREFIX)

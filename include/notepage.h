@@ -26,7 +26,7 @@ extern "C" {
 #endif
 
 /* The version of this header: 10,000 times the first number, 100 times the second, and the third. */
-#define NOTEPAGE_VERSION 100u
+#define NOTEPAGE_VERSION 200u
 
 /* ---- Sizes, in bytes where nothing else is said */
 

@@ -35,7 +35,7 @@ use machine::Ending;
 use machine::Options;
 
 // 10,000 times the first number, 100 times the second, and the third.
-const VERSION: u32 = 100;
+const VERSION: u32 = 200;
 
 // The number that says that more is wanted.
 const MORE: u32 = 255;
