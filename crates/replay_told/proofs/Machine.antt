@@ -68,7 +68,7 @@ swap-alike note n s t h a = rw (← a .staged n h) (on (eqb (getD (s .staged) n 
   where
     on : (b : Bool)
         → Alike note (if b then s else record { staged = set (s .staged) n 0; current = set (s .current) n (getD (s .staged) n 0); count = s .count })
-            (if b then t else record { staged = set (t .staged) n 0; current = set (t .current) n (getD (s .staged) n 0); count = t .count })
+        (if b then t else record { staged = set (t .staged) n 0; current = set (t .current) n (getD (s .staged) n 0); count = t .count })
     on true = a
     on false =
         record {
