@@ -13,7 +13,10 @@ use Rattle.machine.specs.Run.{Answer, page, refused}
 use Rattle.machine_bounded.specs.Within.{ends, turns}
 use Rattle.machine_clean.specs.Section.{Appends}
 use Rattle.machine_clean.proofs.Section.{section-goes}
-use Rattle.state_kept.specs.Kept.{tables}
+use Rattle.regions.specs.Regions.{regionAt}
+use Rattle.regions.specs.Sizes.{keptAt}
+use Rattle.state_kept.specs.declared.Kept.{Kept}
+use Rattle.state_kept.specs.Kept.{InTables, tables}
 use Rattle.state_buffers.specs.Stand.{Holds}
 use Rattle.state_context.specs.Rel.{fixedIn}
 use Rattle.write_section.specs.Contracts.{WritesSection}
@@ -82,13 +85,17 @@ record Sectioned (s : State) (out out′ : List ℕ) (end : ℕ) : Type 0 where
 called : (b : Whole) (text out : List ℕ) (w : World) (s : State) → (b .kept .calls ≡ 0 → ⊥) → Stands text (length out) b w s → (c : Call) × (cs : List Call) × (s .kept .calls ≡ c ∷ cs)
 called b text out w s z x = some-of (s .kept .calls) (λ p. z (x .built .kept .calls .rows ∙ p))
 
+tables-are : {k : Kept} {text region region′ definitions footnotes footnotes′ calls calls′ labels : List ℕ} {s : State} → region ≡ region′ → footnotes ≡ footnotes′ → calls ≡ calls′
+    → InTables k text region (tables definitions footnotes calls labels) s → InTables k text region′ (tables definitions footnotes′ calls′ labels) s
+tables-are p q r x = rw (← p, ← q, ← r) x
+
 module _ (b : Whole) {text work footnotes calls out out′ : List ℕ} {end : ℕ} {fixed : Fixed} (h : fixed ≡ fixedIn (b .context .word)) (k : WritesSection (b .kept) fixed text work footnotes calls out (b .context .buffers .page) out′ end) where
   sectioned : (w : World) (s : State) → w .work ≡ work → w .out ≡ out → w .tables .footnotes ≡ footnotes → w .tables .calls ≡ calls → Stands text (length out) b w s → Last s → Sectioned s out out′ end
   sectioned w s i j f g x l =
       let e = section-goes s (l .clean) (l .called) in
       let p = none-over (length out) s (x .roomy) .kept-is in
       let m = x .built .kept .end in
-      let r = k .writes (w .tables .definitions) (w .tables .labels) s (e .0) (l .closed) (sym (h ∙ x .built .context .fixed)) (rw (← i) (x .built .long)) (omega arith) (rw (← i, ← f, ← g) (x .built .kept)) (rw (← j) (x .built .context .stand .page)) (e .1) in
+      let r = k .writes (w .tables .definitions) (w .tables .labels) s (e .0) (l .closed) (sym (h ∙ x .built .context .fixed)) (ap length (sym i) ∙ x .built .long) (omega arith) (tables-are (ap (regionAt keptAt) i) f g (x .built .kept)) (rw (← j) (x .built .context .stand .page)) (e .1) in
       record { after = e .0; goes = e .1; appends = e .2; holds = r .0; long = r .1 }
 
   module _ {events : List ℕ} (z : b .kept .calls ≡ 0 → ⊥) where
