@@ -177,7 +177,7 @@ fn first_place(blocks: &[u8]) -> Place
     ensures { λ r. ⌜ r ≡ firstPlace (now (blocks .entry)) ⌝ }
 {
     Place {
-        edition: bundle_block::u32_at(blocks, 0),
+        edition: little::u32_at(blocks, 0),
         block: 0,
         tally: Tally {
             count: Count {

@@ -23,7 +23,7 @@ pub fn read(bytes: &[u8]) -> Record
     requires { ⌜ length (now bytes) ≡ 16 ⌝ }
     ensures { λ r. ⌜ r ≡ recordOf (now (bytes .entry)) ⌝ }
 {
-    let edition = bundle_block::u32_at(bytes, 4);
+    let edition = little::u32_at(bytes, 4);
     if is_plain(bytes) {
         return act(bytes[0], bytes[2], edition);
     }
@@ -35,8 +35,8 @@ fn is_plain(bytes: &[u8]) -> bool
     requires { ⌜ length (now bytes) ≡ 16 ⌝ }
     ensures { λ r. ⌜ r ≡ isPlain (now (bytes .entry)) ⌝ }
 {
-    let third = bundle_block::u32_at(bytes, 8);
-    let fourth = bundle_block::u32_at(bytes, 12);
+    let third = little::u32_at(bytes, 8);
+    let fourth = little::u32_at(bytes, 12);
     (bytes[1] == 0) & (bytes[3] == 0) & (third == 0) & (fourth == 0)
 }
 
