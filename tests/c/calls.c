@@ -177,9 +177,9 @@ static void rooms(void)
 {
     HOLDS(takes(encoded, '"', NOTEPAGE_ESCAPE_ROOM));
     HOLDS(takes(bare, 0, 3));
-    HOLDS(takes(notepage_sanitize, '&', NOTEPAGE_SANITIZE_ROOM));
-    HOLDS(takes(notepage_sanitize_link, '&', NOTEPAGE_SANITIZE_ROOM));
-    HOLDS(takes(notepage_sanitize_image, '&', NOTEPAGE_SANITIZE_ROOM));
+    HOLDS(takes(url, '&', NOTEPAGE_SANITIZE_ROOM));
+    HOLDS(takes(quoted_link, '&', NOTEPAGE_SANITIZE_ROOM));
+    HOLDS(takes(image_url, '&', NOTEPAGE_SANITIZE_ROOM));
     HOLDS(takes(normalized, ' ', NOTEPAGE_NORMALIZE_ROOM));
 }
 

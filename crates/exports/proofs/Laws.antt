@@ -19,6 +19,10 @@ use Rattle.call_build.specs.Build.{Builds}
 use Rattle.encode_byte.specs.declared.Escaping.{Escaping}
 use Rattle.encode_byte.specs.Byte.{escapingOf}
 use Rattle.encode.specs.Encode.{encodeOf}
+use Rattle.sanitize_uri.specs.Url.{sanitizeOf}
+use Rattle.sanitize_uri.specs.Protocols.{linkSchemes, imageSchemes, sanitizeWithProtocolsOf}
+use Rattle.call_links_answer.specs.declared.Listed.{Listed}
+use Rattle.call_links_answer.specs.Listed.{Lists}
 use Rattle.call_text_answer.specs.declared.Written.{Written}
 use Rattle.call_text_answer.specs.Written.{Wrote}
 use Rattle.character_reference.specs.declared.Names.{Names}
@@ -29,7 +33,7 @@ use Rattle.exports.specs.declared.NotepageAnswer.{NotepageAnswer}
 use Rattle.exports.specs.declared.NotepageNormalized.{NotepageNormalized}
 use Rattle.exports.specs.declared.NotepageRead.{NotepageRead}
 use Rattle.exports.specs.declared.NotepageReader.{NotepageReader}
-use Rattle.exports.specs.Told.{Told, ofWritten, ofBuilt, ofRead, ofProgress, isDone}
+use Rattle.exports.specs.Told.{Told, ofWritten, ofListed, ofBuilt, ofRead, ofProgress, isDone}
 use Rattle.exports.specs.Given.{hasBit, endingOf, namesOf, optionsOf, escapingIn}
 use Rattle.exports.specs.Reader.{isSet, refusalOf, answerOf, progressOf, knownOf, readerOf}
 
@@ -170,6 +174,22 @@ escaping n p q k = k ∙ rw (p, q)
 pub sanitizes : {text d e : List ℕ} {x : Bool} {w : Written} (f : Bool → List ℕ → List ℕ) (n : ℕ) {r : NotepageAnswer} → x ≡ hasBit 8 n → Wrote text (f x text) d e w → r ≡ ofWritten w
     → Told (Wrote text (f (hasBit 8 n) text) d e) ofWritten r
 sanitizes {w = w} f n e k q = record { answer = w; meets = rw (← e) k; tells = q }
+
+pub sanitize-told : {text d e : List ℕ} {x : Bool} {w : Written} (n : ℕ) {r : NotepageAnswer} → x ≡ hasBit 8 n → Wrote text (sanitizeOf x text) d e w → r ≡ ofWritten w
+    → Told (Wrote text (sanitizeOf (hasBit 8 n) text) d e) ofWritten r
+sanitize-told n e k q = sanitizes sanitizeOf n e k q
+
+pub link-told : {text d e : List ℕ} {x : Bool} {w : Written} (n : ℕ) {r : NotepageAnswer} → x ≡ hasBit 8 n → Wrote text (sanitizeWithProtocolsOf x linkSchemes text) d e w → r ≡ ofWritten w
+    → Told (Wrote text (sanitizeWithProtocolsOf (hasBit 8 n) linkSchemes text) d e) ofWritten r
+link-told n e k q = sanitizes (λ a. sanitizeWithProtocolsOf a linkSchemes) n e k q
+
+pub image-told : {text d e : List ℕ} {x : Bool} {w : Written} (n : ℕ) {r : NotepageAnswer} → x ≡ hasBit 8 n → Wrote text (sanitizeWithProtocolsOf x imageSchemes text) d e w → r ≡ ofWritten w
+    → Told (Wrote text (sanitizeWithProtocolsOf (hasBit 8 n) imageSchemes text) d e) ofWritten r
+image-told n e k q = sanitizes (λ a. sanitizeWithProtocolsOf a imageSchemes) n e k q
+
+pub lists-told : {text ends d l e m : List ℕ} {x : Bool} {w : Listed} (n : ℕ) {r : NotepageAnswer} → x ≡ hasBit 8 n → Lists x text ends d l e m w → r ≡ ofListed w
+    → Told (Lists (hasBit 8 n) text ends d l e m) ofListed r
+lists-told {w = w} n e k q = record { answer = w; meets = rw (← e) k; tells = q }
 
 pub starts : (r : NotepageReader) {x : Reader} → readerOf r ≡ x → ((t e : List ℕ) → standOf x t e ≡ startOf t e) → (t e : List ℕ) → standOf (readerOf r) t e ≡ startOf t e
 starts r h f t e = rw h (f t e)

@@ -64,5 +64,5 @@ pub «notepage_end_bundle» : (r s : NotepageReader) (stand : Stand) (t e u f : 
 pub «notepage_bundle_so_far» : (reader : NotepageReader) {r s : NotepageRead} → r ≡ ofProgress (readerOf reader .state .progress) → s ≡ ofProgress (readerOf reader .state .progress) → r ≡ s
 «notepage_bundle_so_far» reader p q = P.equal p q
 
-pub «notepage_version» : {r s : ℕ} → r ≡ 100 → s ≡ 100 → r ≡ s
+pub «notepage_version» : {r s : ℕ} → r ≡ 200 → s ≡ 200 → r ≡ s
 «notepage_version» p q = P.equal p q

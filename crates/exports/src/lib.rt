@@ -82,7 +82,7 @@ pub struct NotepageReader {
 
 #[no_mangle]
 pub extern "C" fn notepage_version() -> u32
-    ensures { λ r. ⌜ r ≡ 100 ⌝ }
+    ensures { λ r. ⌜ r ≡ 200 ⌝ }
 {
     VERSION
 }

@@ -1,12 +1,11 @@
 -- The page's answer, told. Assumes nothing.
-use Rattle.sanitize_uri.specs.Url.{sanitizeOf}
-use Rattle.exports.proofs.Laws.{sanitizes}
+use Rattle.exports.proofs.Laws.{sanitize-told}
 use borrow.Author.Needs.{needs}
 use Rattle.exports.proofs.notepage_sanitize.Statement.{statement}
 use Rattle.exports.proofs.notepage_sanitize.Tie as tie
 
 returns : tie.Need-returns
-returns c = search (sanitizes sanitizeOf, needs)
+returns c = search (sanitize-told, needs)
 
 pub notepage-sanitize-spec : {M : Type 1} → statement M
 notepage-sanitize-spec =

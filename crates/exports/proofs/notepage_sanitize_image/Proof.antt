@@ -1,12 +1,11 @@
 -- The page's answer, told. Assumes nothing.
-use Rattle.sanitize_uri.specs.Protocols.{imageSchemes, sanitizeWithProtocolsOf}
-use Rattle.exports.proofs.Laws.{sanitizes}
+use Rattle.exports.proofs.Laws.{image-told}
 use borrow.Author.Needs.{needs}
 use Rattle.exports.proofs.notepage_sanitize_image.Statement.{statement}
 use Rattle.exports.proofs.notepage_sanitize_image.Tie as tie
 
 returns : tie.Need-returns
-returns c = search (sanitizes (λ a. sanitizeWithProtocolsOf a imageSchemes), needs)
+returns c = search (image-told, needs)
 
 pub notepage-sanitize-image-spec : {M : Type 1} → statement M
 notepage-sanitize-image-spec =

@@ -1,12 +1,11 @@
 -- The page's answer, told. Assumes nothing.
-use Rattle.sanitize_uri.specs.Protocols.{linkSchemes, sanitizeWithProtocolsOf}
-use Rattle.exports.proofs.Laws.{sanitizes}
+use Rattle.exports.proofs.Laws.{link-told}
 use borrow.Author.Needs.{needs}
 use Rattle.exports.proofs.notepage_sanitize_link.Statement.{statement}
 use Rattle.exports.proofs.notepage_sanitize_link.Tie as tie
 
 returns : tie.Need-returns
-returns c = search (sanitizes (λ a. sanitizeWithProtocolsOf a linkSchemes), needs)
+returns c = search (link-told, needs)
 
 pub notepage-sanitize-link-spec : {M : Type 1} → statement M
 notepage-sanitize-link-spec =
