@@ -1,5 +1,4 @@
 // The exporter: a note in, its text and event records out, by the crate's own parser; and the crate's page of a note.
-use crate::compile::page_of;
 use crate::record::{self, names, Record, ENTER};
 use markdown::event::{Event, Kind, Name, Point};
 use markdown::mdast::AlignKind;
@@ -134,7 +133,7 @@ fn exit(name: u8, start: &Point, end: &Point) -> Record {
 
 /// For each line of standard input, a note in hexadecimal, one line of JSON: text, events and page, in hexadecimal, and
 /// null where the crate panics.
-pub fn print(options: PageOptions) {
+pub fn print(options: PageOptions, page_of: fn(&[u8], &[Record], PageOptions) -> Option<String>) {
     for line in std::io::stdin().lines() {
         let bytes = from_hexadecimal(&line.expect("standard input can be read"));
         let note = String::from_utf8(bytes).expect("a note is UTF-8");

@@ -75,7 +75,7 @@ fn main() {
         ["growth"] => growth::print(),
         ["link-vectors", folder] => vectors::append(folder, &links::fixed(), 300_000),
         ["references"] => references::print(),
-        ["export", bits, ending] => export::print(page_options(bits, ending)),
+        ["export", bits, ending] => export::print(page_options(bits, ending), compile::page_of),
         ["compile", bits, ending] => compile::print(page_options(bits, ending)),
         _ => {
             eprintln!("{USAGE}");
