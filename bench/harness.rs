@@ -257,7 +257,7 @@ fn list_sides(urls: &[String]) -> (Side<'_>, Side<'_>) {
     };
     let theirs = move || {
         for (url, out) in &mut singly {
-            black_box(unsafe { notepage_sanitize_link(black_box(url.as_ptr()), url.len(), out.as_mut_ptr(), out.len()) });
+            black_box(unsafe { notepage_sanitize_link(black_box(url.as_ptr()), url.len(), 0, out.as_mut_ptr(), out.len()) });
         }
     };
     (Box::new(ours), Box::new(theirs))
