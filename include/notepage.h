@@ -166,7 +166,8 @@ notepage_read notepage_bundle_so_far(notepage_reader reader);
 notepage_answer notepage_escape(const unsigned char *text, size_t text_length, uint32_t options, unsigned char *out,
                                 size_t out_length);
 
-/* A URL made safe for an attribute. Of the options NOTEPAGE_ESCAPE_APOSTROPHES counts, in the next two as well. */
+/* A URL made safe for an attribute. Of the options NOTEPAGE_ESCAPE_APOSTROPHES counts, in the next two as well and
+ * in notepage_sanitize_links. */
 notepage_answer notepage_sanitize(const unsigned char *url, size_t url_length, uint32_t options, unsigned char *out,
                                   size_t out_length);
 

@@ -216,8 +216,9 @@ pub fn normalize<'a>(url: &[u8], out: &'a mut [u8]) -> Result<Normalized<'a>, Re
 }
 
 /// A whole list of links in one call: a text, and the places where its URLs end; each begins where the one before ends.
-/// What [`sanitize_link`] gives for each, one behind the other, and how long each is in `lengths`, which has a place for
-/// each URL or more. Refusals 1, 2, 3, 9; the place of 3, of 9 and of 1 for a wrong end is the URL's index.
+/// What [`sanitize_link`] gives for each, with `'` escaped or not, one behind the other, and how long each is in
+/// `lengths`, which has a place for each URL or more. Refusals 1, 2, 3, 9; the place of 3, of 9 and of 1 for a wrong end
+/// is the URL's index.
 ///
 /// ```
 /// let (mut out, mut lengths) = ([0; 64], [0; 3]);

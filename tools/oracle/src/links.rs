@@ -24,7 +24,7 @@ const ODD: [&[u8]; 12] = [
     b"\x82",
 ];
 
-// ---- item 7
+// ---- RULES R22
 
 /// All bytes and each URL's length, or a refusal's number and place.
 fn list(case: &Case, room: usize) -> Result<(Vec<u8>, Vec<u32>), (u32, usize)> {

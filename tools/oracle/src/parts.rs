@@ -2,7 +2,7 @@
 use crate::bundle::{self, answered, judge, word, Answer, BLOCK, PAYLOAD, RECORD};
 use crate::drive::Asked;
 
-// ---- item 6: what the last call answers depends on the joined bytes alone, and on whether the end was said
+// ---- RULES R15.10: what the last call answers depends on the joined bytes alone, and on whether the end was said
 
 /// A refusal's number and place.
 type Fault = (u32, usize);

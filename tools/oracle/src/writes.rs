@@ -9,7 +9,7 @@ const TEXT_LENGTHS: [usize; 16] =
     [0, 1, 2, 499, 500, 501, 999, 1_000, 1_001, 63_499, 63_500, 63_501, 63_999, 64_000, 64_001, 64_500];
 const EVENT_COUNTS: [usize; 14] = [0, 1, 2, 24, 25, 26, 49, 50, 51, 3_175, 3_176, 3_199, 3_200, 3_201];
 
-// ---- item 2
+// ---- RULES R15.8
 
 /// The bundle, or a refusal's number; the place is always 0.
 fn write(text: &[u8], events: &[u8], edition: u32, room: usize) -> Result<Vec<u8>, u32> {
