@@ -1,4 +1,6 @@
 // What is measured alone, beside the Rust: no part of the library that is shipped.
+#![tactic(auto)]
+
 ghost use Rattle.std.specs.Prelude.{false, ◌<◌, length};
 ghost use Rattle.lent.specs.Fill.{Filled};
 ghost use Rattle.encode.specs.Encode.{encode_of};

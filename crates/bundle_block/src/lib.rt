@@ -1,4 +1,6 @@
 // One block of a note bundle: its words, and the verdict on it.
+#![tactic(auto)]
+
 ghost use Rattle.std.specs.Prelude.{ℕ, ◌+◌, ◌*◌, ◌%◌, ◌≤◌, ◌<◌, min, ◌≡◌, length, get_or};
 ghost use Rattle.lent.specs.Bytes.{all};
 ghost use Rattle.bundle_block.specs.Block.{weighed, check_of, is_zero, ◌before◌, demand as demanded, judge_check, judge_edition, judge_order, judge_block};
@@ -11,7 +13,7 @@ const ROW: usize = 16;
 const PART: usize = 16 * ROW;
 
 // A buffer that is too short, or what is wrong with a block, and which one.
-#[derive(Drop)]
+#[derive(Clone, Copy)]
 pub enum Refusal {
     Short,
     Broken(usize),
@@ -19,7 +21,7 @@ pub enum Refusal {
     OtherEdition(usize),
 }
 
-#[derive(Drop)]
+#[derive(Clone, Copy)]
 pub enum Verdict {
     Good,
     Bad(Refusal),

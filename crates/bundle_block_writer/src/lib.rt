@@ -1,4 +1,6 @@
 // A block of a note bundle, and a run of blocks, written where they stand in a lent buffer.
+#![tactic(auto)]
+
 ghost use Rattle.std.specs.Prelude.{◌+◌, ◌-◌, ◌*◌, ◌≤◌, [], ◌∷◌, ◌++◌, ◌≡◌, length};
 ghost use Rattle.lent.specs.Fill.{fill, zeros, Filled};
 ghost use Rattle.bundle_block.specs.Block.{little, block_of};

@@ -1,4 +1,6 @@
 // What is known of a note bundle while it comes, and what more bytes of it add: block 0, the text blocks, the event blocks.
+#![tactic(auto)]
+
 ghost use Rattle.std.specs.Prelude.{◌-◌, ◌/◌, ◌≤◌, ◌<◌, min, ◌≡◌, length};
 ghost use Rattle.bundle_read.specs.Bundle.{blocks_for, event_count};
 ghost use Rattle.bundle_known.specs.Known.{unknown, said_in, index_of, whole_of, with_text, with_events};
@@ -16,7 +18,7 @@ const RECORD: u32 = Event::SIZE as u32;
 
 // Whether block 0 has come, what it says (lengths in bytes), and how much of text and events has come. Lengths are 32 bits
 // wide, so that no sum of theirs can overflow, whatever a caller makes of them.
-#[derive(Drop)]
+#[derive(Clone, Copy)]
 pub struct Known {
     pub begun: bool,
     pub edition: u32,
@@ -27,14 +29,14 @@ pub struct Known {
 }
 
 // How many bytes were taken, and what is known then; or a block's refusal.
-#[derive(Drop)]
+#[derive(Clone, Copy)]
 pub enum Step {
     Next(Known, usize),
     Stop(Refusal),
 }
 
 // How many bytes of the text, or of the events, have come, and how many bytes of the blocks were taken.
-#[derive(Drop)]
+#[derive(Clone, Copy)]
 pub enum Run {
     Took(u32, usize),
     Stopped(Refusal),

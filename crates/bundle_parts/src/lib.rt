@@ -1,4 +1,6 @@
 // The note bundle as it comes: in parts of any length, of which a block's rest is kept between two calls.
+#![tactic(auto)]
+
 ghost use Rattle.std.specs.Prelude.{ℕ, ◌<◌, true, false, List, ◌++◌, ◌⊎◌, ◌≡◌, length, take};
 ghost use Rattle.lent.specs.Fill.{zeros};
 ghost use Rattle.bundle_known.specs.Known.{whole_of, advance_of};
@@ -12,14 +14,14 @@ use bundle_read::{Answer, LEAST_ROOM};
 use bundle_run::BLOCK;
 
 // More is wanted, or the answer.
-#[derive(Drop)]
+#[derive(Clone, Copy)]
 pub enum Progress {
     More,
     Done(Answer),
 }
 
 // What is known, how many bytes of a block are held, whether a byte came behind the last block, and the answer so far.
-#[derive(Drop)]
+#[derive(Clone, Copy)]
 pub struct State {
     pub known: Known,
     pub held: usize,
@@ -28,7 +30,7 @@ pub struct State {
 }
 
 // A state between two calls, with a block's rest.
-#[derive(Drop)]
+#[derive(Clone, Copy)]
 pub struct Reader {
     pub state: State,
     pub rest: [u8; 512],

@@ -1,4 +1,6 @@
 // The note bundle, read whole: judged first, in the order of RULES R15.6, and copied only then.
+#![tactic(auto)]
+
 ghost use Rattle.std.specs.Prelude.{◌+◌, ◌-◌, ◌*◌, ◌≤◌, ◌<◌, ◌++◌, ◌≡◌, length};
 ghost use Rattle.lent.specs.Fill.{zeros};
 ghost use Rattle.bundle_block.specs.Block.{◌before◌, edition_in};
@@ -31,7 +33,7 @@ pub const TEXT_KIND: u8 = 2;
 pub const EVENT_KIND: u8 = 3;
 
 // What a bundle holds, in bytes, and its edition; or why it is refused.
-#[derive(Drop)]
+#[derive(Clone, Copy)]
 pub enum Answer {
     Bundle {
         text: usize,

@@ -1,4 +1,6 @@
 // A run of blocks of one kind: the verdict on it, and what it holds.
+#![tactic(auto)]
+
 ghost use Rattle.std.specs.Prelude.{◌+◌, ◌-◌, ◌*◌, ◌≤◌, ◌++◌, ◌≡◌, length};
 ghost use Rattle.lent.specs.Fill.{zeros, Filled};
 ghost use Rattle.bundle_run.specs.Run.{judge_run, held_in};

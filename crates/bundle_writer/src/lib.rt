@@ -1,4 +1,6 @@
 // The note bundle, written: refused first, and written only where all of it has room.
+#![tactic(auto)]
+
 ghost use Rattle.std.specs.Prelude.{◌+◌, ◌*◌, ◌/◌, ◌≤◌, ◌<◌, ◌++◌, ◌≡◌, length};
 ghost use Rattle.lent.specs.Fill.{fill, zeros};
 ghost use Rattle.bundle_block.specs.Block.{little, block_of};
@@ -15,7 +17,7 @@ use event::Event;
 use little::U32;
 
 // The bundle's length, or why none was written.
-#[derive(Drop)]
+#[derive(Clone, Copy)]
 pub enum Packed {
     Length(usize),
     WrongLength,

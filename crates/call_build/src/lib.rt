@@ -1,4 +1,6 @@
 // The page of a checked note: refusals 1 to 7 by the checker, 8 and 9 by the run, and every lent byte afterwards.
+#![tactic(auto)]
+
 ghost use Rattle.std.specs.Prelude.{◌≤◌, length};
 ghost use Rattle.regions.specs.Sizes.{work_size};
 ghost use Rattle.call_build.specs.Build.{Builds};

@@ -1,4 +1,6 @@
 // A build's answer: its number (RULES R7.1), refusals 1 to 7, and every lent byte once the answer is known. The run is in `call_build`.
+#![tactic(auto)]
+
 ghost use Rattle.std.specs.Prelude.{◌≡◌};
 ghost use Rattle.call_build_answer.specs.Built.{number_of, value_of, checked_of, Leaves};
 ghost use Rattle.call_build_answer.specs.Rendered.{built_of, kept_of};
@@ -9,7 +11,7 @@ use event::EventIndex;
 use run_answer::Rendered;
 
 // The page's length; refusals 1 to 7; or 8 and 9, with the event after which the work bytes or the output have no room.
-#[derive(Drop)]
+#[derive(Clone, Copy)]
 pub enum Built {
     Page(usize),
     Refused(Checked),

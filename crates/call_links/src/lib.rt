@@ -1,4 +1,6 @@
 // The call that takes a list of links: one text, the places where its URLs end, and for each the length and the bytes.
+#![tactic(auto)]
+
 ghost use Rattle.std.specs.Prelude.{◌≡◌, length};
 ghost use Rattle.lent.specs.Fill.{Filled};
 ghost use Rattle.call_links_answer.specs.Links.{link_of};

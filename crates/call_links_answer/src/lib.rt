@@ -1,4 +1,6 @@
 // The answer of the call that takes a list of links, and what is asked of the list before anything is written: refusals 1, 2 and 3.
+#![tactic(auto)]
+
 ghost use Rattle.std.specs.Prelude.{◌-◌, ◌≡◌, ◌++◌, length, take};
 ghost use Rattle.lent.specs.Fill.{zeros};
 ghost use Rattle.call_links_answer.specs.Links.{ordered, uncut};
@@ -8,7 +10,7 @@ ghost use Rattle.call_links_answer.specs.Listed.{number_of, value_of, taken_of, 
 const MOST_TEXT: usize = 64000;
 
 // The answer: how many bytes all links have together, or why nothing was written, with the index of the URL where it is one's fault.
-#[derive(Drop)]
+#[derive(Clone, Copy)]
 pub enum Listed {
     Length(usize),
     // the text is too long, or the lengths are fewer than the URLs
@@ -20,7 +22,7 @@ pub enum Listed {
 }
 
 // Whether a list is taken.
-#[derive(Drop)]
+#[derive(Clone, Copy)]
 pub enum Taken {
     Yes,
     Refused(Listed),

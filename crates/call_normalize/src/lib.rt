@@ -1,5 +1,7 @@
 // The call that percent-encodes a URL and says how many characters it visited. It answers on all inputs, says every byte of the buffer
 // lent to it, and demands nothing of its caller.
+#![tactic(auto)]
+
 ghost use Rattle.std.specs.Prelude.{◌≡◌};
 ghost use Rattle.normalize_uri.specs.Url.{normalize_of};
 ghost use Rattle.call_text_answer.specs.Written.{Wrote};
@@ -8,7 +10,7 @@ ghost use Rattle.call_normalize.specs.Normalized.{number_of, value_of, visits_in
 use call_text_answer::{Taken, Written};
 
 // The URL's length and the visits, or why nothing was written.
-#[derive(Drop)]
+#[derive(Clone, Copy)]
 pub enum Normalized {
     Url { length: usize, visits: usize },
     TooLong,

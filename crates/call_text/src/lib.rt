@@ -1,4 +1,6 @@
 // The calls that write a text. Each answers on all inputs, says every byte of the buffer lent to it, and demands nothing of its caller.
+#![tactic(auto)]
+
 ghost use Rattle.lent.specs.Fill.{Filled};
 ghost use Rattle.encode.specs.Encode.{encode_of};
 ghost use Rattle.sanitize_uri.specs.Url.{sanitize_of};
@@ -12,7 +14,7 @@ use encode_byte::Escaping;
 use sanitize_uri::Protocols;
 
 // What a call makes of its text.
-#[derive(Drop)]
+#[derive(Clone, Copy)]
 pub enum Job {
     Escape(Escaping),
     // whether apostrophes are escaped, in each of these

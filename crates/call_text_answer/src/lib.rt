@@ -1,9 +1,11 @@
 // The answer of a call that writes a text, and every byte of the buffer lent to it: refusals 1, 2 and 9.
+#![tactic(auto)]
+
 ghost use Rattle.std.specs.Prelude.{◌≡◌};
 ghost use Rattle.call_text_answer.specs.Written.{number_of, value_of, taken_of, Ended, Refuses};
 
 // The answer of a call that writes a text: its length, or why nothing was written.
-#[derive(Drop)]
+#[derive(Clone, Copy)]
 pub enum Written {
     Length(usize),
     TooLong,
@@ -12,7 +14,7 @@ pub enum Written {
 }
 
 // Whether a text is taken.
-#[derive(Drop)]
+#[derive(Clone, Copy)]
 pub enum Taken {
     Yes,
     Refused(Written),

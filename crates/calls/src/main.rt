@@ -1,4 +1,6 @@
 // Every public call over standard input and output: requests in, answers out, until the input ends.
+#![tactic(auto)]
+
 ghost use Rattle.std.specs.Prelude.{◌+◌, ◌≤◌, ◌<◌, ◌≡◌, length};
 
 use bundle_parts::{Progress, Reader};
@@ -21,7 +23,7 @@ const MOST_WORK: usize = 131072;
 const WORDS_AT_ONCE: usize = 1024;
 
 // A request's first 32 bytes, read.
-#[derive(Drop)]
+#[derive(Clone, Copy)]
 struct Request {
     op: u8,
     options: u8,
@@ -463,7 +465,7 @@ fn call_normalize(url: &[u8], out: &mut [u8]) -> call_normalize::Normalized {
 }
 
 // The answer's first 24 bytes.
-#[derive(Drop)]
+#[derive(Clone, Copy)]
 struct Head {
     number: u32,
     value: usize,

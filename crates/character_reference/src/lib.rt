@@ -1,4 +1,6 @@
 // Character references: what stands for a number or a name, in UTF-8.
+#![tactic(auto)]
+
 ghost use Rattle.std.specs.Prelude.{◌≡◌, ◌≤◌, true};
 ghost use Rattle.lent.specs.Fill.{Filled};
 ghost use Rattle.utf8.specs.Utf8.{tail};
@@ -53,7 +55,7 @@ fn tail_of(n: u32) -> u8
 // ---- references
 
 // The newest marker before a value: 8, 9 or 10.
-#[derive(Drop)]
+#[derive(Clone, Copy)]
 pub enum Marker {
     Named,
     Decimal,
@@ -61,14 +63,14 @@ pub enum Marker {
 }
 
 // The names option: `lang` and `rang` stand for U+2329 and U+232A in HTML 4.01, for U+27E8 and U+27E9 in HTML5.
-#[derive(Drop)]
+#[derive(Clone, Copy)]
 pub enum Names {
     Html4,
     Html5,
 }
 
 // What a value stands for: a code point, or nothing, since the slice breaks its rule.
-#[derive(Drop)]
+#[derive(Clone, Copy)]
 pub enum Value {
     Code(u32),
     Broken,
@@ -132,7 +134,7 @@ fn numeral_of(s: &[u8], base: u32, most: usize) -> Value
 }
 
 // Where a byte string comes beside another.
-#[derive(Drop)]
+#[derive(Clone, Copy)]
 enum Order {
     Before,
     Same,

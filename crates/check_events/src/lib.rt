@@ -1,4 +1,6 @@
 // The checker's walk for refusals 3 to 6: the fields of all events, how they nest, their slices and the counts; and whether 7 has anything to look at.
+#![tactic(auto)]
+
 ghost use Rattle.std.specs.Prelude.{◌≡◌, true, false, length};
 ghost use Rattle.check_nesting.specs.Tag.{tags_of};
 ghost use Rattle.check_nesting.specs.Pass.{nest_of};
@@ -15,7 +17,7 @@ use check_slices::{Counts, FirstWrong, Seen};
 use event::{Event, EventIndex};
 
 // What 5 and 6 say, and whether there may be a link, an image or a call.
-#[derive(Drop)]
+#[derive(Clone, Copy)]
 pub struct Passed {
     pub slices: FirstWrong,
     pub counts: FirstWrong,
@@ -23,7 +25,7 @@ pub struct Passed {
 }
 
 // The first event whose fields break a rule; else the first at which the list does not nest; else what the rest of the walk says.
-#[derive(Drop)]
+#[derive(Clone, Copy)]
 pub enum Looked {
     Field(usize),
     Nested(usize),
@@ -31,14 +33,14 @@ pub enum Looked {
 }
 
 // The walk for 5: the place of the first wrong slice, or the count of events where there is none so far, and what the rules look back for.
-#[derive(Drop)]
+#[derive(Clone, Copy)]
 pub struct Slicing {
     pub wrong: usize,
     pub seen: Seen,
 }
 
 // The same for 6; and whether a link, an image, a call or a definition began.
-#[derive(Drop)]
+#[derive(Clone, Copy)]
 pub struct Counting {
     pub wrong: usize,
     pub counts: Counts,

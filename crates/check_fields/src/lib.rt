@@ -1,11 +1,13 @@
 // Refusal 3: whether an event's fields meet their rules. `check_events` walks over all events.
+#![tactic(auto)]
+
 ghost use Rattle.std.specs.Prelude.{◌≡◌, ◌≤◌, length};
 ghost use Rattle.check_fields.specs.Fields.{table_extra, extra_holds, enter_holds, most_spaces, spaces_hold, slice_holds, exit_holds, fields_hold};
 
 use event::Event;
 
 // Every event passes, or the index of the first that breaks a rule.
-#[derive(Drop)]
+#[derive(Clone, Copy)]
 pub enum Fields {
     Yes,
     At(usize),

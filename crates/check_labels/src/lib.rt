@@ -1,4 +1,6 @@
 // The pass for 7: a link, an image or a call whose label no definition has.
+#![tactic(auto)]
+
 ghost use Rattle.std.specs.Prelude.{◌≡◌, ◌&&◌, [], ◌∷◌, ◌+◌, ◌<◌, ◌≤◌, drop};
 ghost use Rattle.lent.specs.Bytes.{listed, one_of};
 ghost use Rattle.event.specs.Event.{count_of, events_of, event_at};
@@ -11,21 +13,21 @@ ghost use Rattle.check_labels.specs.Uses.{Other, Seeks, IsUse, NextUse};
 use event::{Event, EventIndex};
 use signature::Signature;
 
-#[derive(Drop)]
+#[derive(Clone, Copy)]
 pub enum Labels {
     Yes,
     At(usize),
 }
 
 // A part of an element: its slice, or the element has none.
-#[derive(Drop)]
+#[derive(Clone, Copy)]
 pub enum Part {
     Slice(usize, usize),
     Nothing,
 }
 
 // What an event is on the way to an element's part: passed, with so many open behind it; the part, with its slice; or the element's exit.
-#[derive(Drop)]
+#[derive(Clone, Copy)]
 pub enum Turn {
     On(usize),
     Own(usize, usize),

@@ -1,4 +1,6 @@
 // The checker (RULES R7.3): whether a list of events and its text meet the rules, refusals 1 to 7 in the order of their numbers.
+#![tactic(auto)]
+
 ghost use Rattle.std.specs.Prelude.{◌≡◌};
 ghost use Rattle.check_events.specs.Looked.{Passes};
 ghost use Rattle.check_list.specs.Checked.{sizes_hold, Checks, number_of, place_of};
@@ -10,7 +12,7 @@ use check_slices::FirstWrong;
 use event::{Event, EventIndex};
 
 // Yes, or why not: refusals 1 to 7 (RULES R7.1), with the event where there is one. Left open at the end, it is the count of events.
-#[derive(Drop)]
+#[derive(Clone, Copy)]
 pub enum Checked {
     Yes,
     WrongLength,

@@ -1,4 +1,6 @@
 // The steps for 4, which a walk over the events takes: whether a list nests (RULES R3), or the event at which it does not.
+#![tactic(auto)]
+
 ghost use Rattle.std.specs.Prelude.{◌≡◌, ◌-◌, ◌≤◌, ◌<◌, length, get_or};
 ghost use Rattle.event.specs.Event.{name_count};
 ghost use Rattle.check_nesting.specs.Pass.{turn, leave};
@@ -8,28 +10,28 @@ ghost use Rattle.check_nesting.specs.Moved.{Opens, Closes, Advances};
 use event::Event;
 
 // What 4 says of a list: yes, or the place.
-#[derive(Drop)]
+#[derive(Clone, Copy)]
 pub enum Nesting {
     Yes,
     At(usize),
 }
 
 // An element is refused, or entered: the states in it and behind it.
-#[derive(Drop)]
+#[derive(Clone, Copy)]
 enum Entry {
     Refused,
     Into(u8, u8),
 }
 
 // An element stays open, or is left: the state then.
-#[derive(Drop)]
+#[derive(Clone, Copy)]
 enum Exit {
     Stays,
     To(u8),
 }
 
 // A list does not nest here, or goes on: how many are open then, and the state.
-#[derive(Drop)]
+#[derive(Clone, Copy)]
 pub enum Moved {
     Refused,
     To(usize, u8),
@@ -65,7 +67,7 @@ const ENTRIES: [u8; 315] = *b"\
 ";
 
 // Both tables, to be lent: a `const` would be built anew at each use.
-#[derive(Drop)]
+#[derive(Clone, Copy)]
 pub struct Lookup {
     pub states: [u8; 96],
     pub entries: [u8; 315],

@@ -1,4 +1,6 @@
 // Refusals 5 and 6: the slices of exits, and how many definitions there are. `check_events` walks over all events.
+#![tactic(auto)]
+
 ghost use Rattle.std.specs.Prelude.{min, ◌≡◌};
 ghost use Rattle.lent.specs.Bytes.{is_digit};
 ghost use Rattle.check_slices.specs.Slices.{is_ending, is_item_value, is_level, is_underline, seen_behind, slice_holds, part, event_holds};
@@ -8,21 +10,21 @@ use character_reference::Marker;
 use event::Event;
 
 // Yes, or the place of the first event that breaks the rule.
-#[derive(Drop)]
+#[derive(Clone, Copy)]
 pub enum FirstWrong {
     Yes,
     At(usize),
 }
 
 // What the slices' rules look back for: whether a 14 was left since the newest 13 began, and the newest marker.
-#[derive(Drop)]
+#[derive(Clone, Copy)]
 pub struct Seen {
     pub sequence: bool,
     pub marker: Marker,
 }
 
 // How many definitions and footnote definitions began.
-#[derive(Drop)]
+#[derive(Clone, Copy)]
 pub struct Counts {
     pub definitions: usize,
     pub footnotes: usize,

@@ -1,4 +1,6 @@
 // An enter goes to its handler by its name, where that leaves media, labels, the setext text and what is kept alone; elsewhere the state is left as it is.
+#![tactic(auto)]
+
 ghost use Rattle.std.specs.Prelude.{true};
 ghost use Rattle.machine.specs.OnList.{on_enter_list};
 ghost use Rattle.state_context.specs.Rel.{Keeps};

@@ -1,4 +1,6 @@
 // An exit goes to its handler by its name, but for what stands in a line, where that leaves media, labels, the setext text and what is kept alone; elsewhere the state is left as it is.
+#![tactic(auto)]
+
 ghost use Rattle.std.specs.Prelude.{false, ◌<◌};
 ghost use Rattle.event.specs.Event.{count_of};
 ghost use Rattle.machine.specs.OnFlow.{on_exit_raw_flow};

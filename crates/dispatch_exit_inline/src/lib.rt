@@ -1,4 +1,6 @@
 // An exit of what stands in a line goes to its handler by its name; where it has none the state is left as it is.
+#![tactic(auto)]
+
 ghost use Rattle.std.specs.Prelude.{false, ◌≡◌, ◌<◌};
 ghost use Rattle.event.specs.Event.{count_of};
 ghost use Rattle.machine.specs.OnText.{on_exit_line_ending, on_exit_blank_line_ending};

@@ -1,4 +1,6 @@
 // The event at an index goes to its handler: by whether that concerns the context alone, by enter or exit, and by its name. Enters of the context alone go to `dispatch_enter`.
+#![tactic(auto)]
+
 ghost use Rattle.std.specs.Prelude.{◌<◌, false, not, ◌≡◌};
 ghost use Rattle.event.specs.Event.{count_of, is_enter};
 ghost use Rattle.state_kept.specs.Kept.{tables};

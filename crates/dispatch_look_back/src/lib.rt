@@ -1,4 +1,6 @@
 // What stands before an event: the look back before </li>, and two that look at one event.
+#![tactic(auto)]
+
 ghost use Rattle.std.specs.Prelude.{◌≤◌, ◌<◌, ◌≡◌, [], ◌∷◌};
 ghost use Rattle.lent.specs.Bytes.{one_of};
 ghost use Rattle.event.specs.Event.{count_of};

@@ -1,4 +1,6 @@
 // An event that concerns media, definitions, footnotes or setext headings goes to its handler by its name; elsewhere the state is left as it is.
+#![tactic(auto)]
+
 ghost use Rattle.std.specs.Prelude.{◌≡◌};
 ghost use Rattle.dispatch_media.specs.Enters.{enters_whole, Enters};
 ghost use Rattle.state_kept.specs.Kept.{tables};

@@ -1,4 +1,6 @@
 // Text made safe for HTML, as `encode.rs`. Sixteen bytes that all stay are copied at once, others one by one.
+#![tactic(auto)]
+
 ghost use Rattle.std.specs.Prelude.{◌+◌, ◌≤◌, ◌≡◌, length, take, drop};
 ghost use Rattle.lent.specs.Bytes.{any};
 ghost use Rattle.lent.specs.Fill.{Filled};

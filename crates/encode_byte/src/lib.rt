@@ -1,11 +1,13 @@
 // One byte made safe for HTML, as `encode.rs`.
+#![tactic(auto)]
+
 ghost use Rattle.std.specs.Prelude.{min, ◌≡◌};
 ghost use Rattle.lent.specs.Fill.{Filled};
 ghost use Rattle.encode_byte.specs.Byte.{escapes_html, escapes_apostrophes, escaping_of, encode_byte};
 ghost use Rattle.encode_byte.specs.Private.{is_special, special_mask};
 
 // What becomes a character reference. NUL is replaced in any case.
-#[derive(Drop)]
+#[derive(Clone, Copy)]
 pub enum Escaping {
     Off,
     // `&`, `<`, `>` and `"`

@@ -1,17 +1,19 @@
 // Event records of 20 bytes, little endian: decoded, one field read, and the extra field unpacked.
+#![tactic(auto)]
+
 ghost use Rattle.std.specs.Prelude.{◌+◌, ◌*◌, ◌≤◌, ◌<◌, ◌≡◌, length};
 ghost use Rattle.event.specs.Event.{record_size, count_of, event_of, event_at, is_enter, is_loose, columns_of, alignment_of};
 
 // An event's place in the list. It is never added to a byte's place.
-#[derive(Drop)]
+#[derive(Clone, Copy)]
 pub struct EventIndex(pub usize);
 
 // A byte's place in the text.
-#[derive(Drop)]
+#[derive(Clone, Copy)]
 pub struct BytePlace(pub usize);
 
 // One record. An exit's slice of the text is from..to.
-#[derive(Drop)]
+#[derive(Clone, Copy)]
 pub struct Event {
     pub kind: u8,
     pub name: u8,

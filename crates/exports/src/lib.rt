@@ -1,4 +1,6 @@
 // The library for C and whatever calls C: each public call of the page under one prefix, its answer in numbers (include/notepage.h).
+#![tactic(auto)]
+
 ghost use Rattle.std.specs.Prelude.{ℕ, ◌<◌, List, ◌≡◌};
 ghost use Rattle.encode.specs.Encode.{encode_of};
 ghost use Rattle.sanitize_uri.specs.Url.{sanitize_of};
@@ -38,7 +40,7 @@ const MORE: u32 = 255;
 
 // An answer's number (RULES R7.1), and the length or the refusal's place.
 #[repr(C)]
-#[derive(Drop)]
+#[derive(Clone, Copy)]
 pub struct NotepageAnswer {
     pub number: u32,
     pub value: usize,
@@ -46,7 +48,7 @@ pub struct NotepageAnswer {
 
 // The number, the URL's length or the refusal's place, and how many characters were visited.
 #[repr(C)]
-#[derive(Drop)]
+#[derive(Clone, Copy)]
 pub struct NotepageNormalized {
     pub number: u32,
     pub value: usize,
@@ -55,7 +57,7 @@ pub struct NotepageNormalized {
 
 // The number; the text's length or the refusal's place, the events' length in bytes, and the edition.
 #[repr(C)]
-#[derive(Drop)]
+#[derive(Clone, Copy)]
 pub struct NotepageRead {
     pub number: u32,
     pub edition: u32,
@@ -65,7 +67,7 @@ pub struct NotepageRead {
 
 // The state of a reader in parts between two calls. In one before the first part every number is zero.
 #[repr(C)]
-#[derive(Drop)]
+#[derive(Clone, Copy)]
 pub struct NotepageReader {
     pub begun: u32,
     pub edition: u32,

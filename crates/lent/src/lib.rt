@@ -1,5 +1,7 @@
 // Writing into a lent buffer: the place behind the last byte goes in and comes out. A place past the buffer's end says that
 // something had no room, and stays so; callers need no test between two writes.
+#![tactic(auto)]
+
 ghost use Rattle.std.specs.Prelude.{◌+◌, ◌-◌, ◌≤◌, ◌<◌, [], ◌∷◌, ◌++◌, ◌≡◌, length, take};
 ghost use Rattle.lent.specs.Bytes.{has_bit};
 ghost use Rattle.lent.specs.Fill.{fill, zeros, Filled};

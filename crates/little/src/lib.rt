@@ -1,4 +1,6 @@
 // Numbers in bytes, little endian: read from a place on in two, four or eight bytes, and written in so many.
+#![tactic(auto)]
+
 ghost use Rattle.std.specs.Prelude.{◌+◌, ◌≤◌, ◌<◌, ◌≡◌, length};
 ghost use Rattle.lent.specs.Fill.{Filled};
 ghost use Rattle.little.specs.Little.{little, field};

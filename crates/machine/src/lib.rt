@@ -1,8 +1,10 @@
 // The definition's machine: specs/ alone matters here. These types are declared in code, so that the code can have the same ones where it needs them.
+#![tactic(auto)]
+
 use character_reference::Names;
 
 // What the next handlers go by.
-#[derive(Drop)]
+#[derive(Clone, Copy)]
 pub struct Flags {
     // the next line ending is swallowed
     pub slurp: bool,
@@ -17,7 +19,7 @@ pub struct Flags {
 }
 
 // A line ending.
-#[derive(Drop)]
+#[derive(Clone, Copy)]
 pub enum Ending {
     Lf,
     Cr,
@@ -25,7 +27,7 @@ pub enum Ending {
 }
 
 // What the caller chooses; the ending is the default, for a text that has none.
-#[derive(Drop)]
+#[derive(Clone, Copy)]
 pub struct Options {
     pub allow_dangerous_html: bool,
     pub allow_dangerous_protocol: bool,
@@ -37,7 +39,7 @@ pub struct Options {
 }
 
 // What does not change during a build: it is in the state, since the footnote section has no turn.
-#[derive(Drop)]
+#[derive(Clone, Copy)]
 pub struct Fixed {
     pub ending: Ending,
     // which HTML's names a character reference has

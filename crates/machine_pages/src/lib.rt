@@ -1,1 +1,3 @@
 // Pages of the crate markdown, computed by the prover from its events: proofs/ alone matters.
+#![tactic(auto)]
+

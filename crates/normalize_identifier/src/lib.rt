@@ -1,25 +1,27 @@
 // Label identity: written into a lent buffer, or compared byte by byte without writing it.
+#![tactic(auto)]
+
 ghost use Rattle.std.specs.Prelude.{◌&&◌, [], ◌≡◌, ◌+◌, drop};
 ghost use Rattle.lent.specs.Bytes.{same};
 ghost use Rattle.lent.specs.Fill.{Filled};
 ghost use Rattle.normalize_identifier.specs.Identity.{at_start, blank, blanks, folded, identity_of, left_at, Spells};
 
 // A place in a label, and whether a byte of its identity stands before it.
-#[derive(Drop)]
+#[derive(Clone, Copy)]
 pub struct Cursor {
     pub at: usize,
     pub begun: bool,
 }
 
 // The next byte of an identity, with the cursor behind it.
-#[derive(Drop)]
+#[derive(Clone, Copy)]
 pub enum Step {
     Byte(u8, Cursor),
     End,
 }
 
 // What a search finds.
-#[derive(Drop)]
+#[derive(Clone, Copy)]
 pub enum Found {
     At(usize),
     Nothing,

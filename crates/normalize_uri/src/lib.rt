@@ -1,4 +1,6 @@
 // URLs percent-encoded, as `normalize` of `sanitize_uri.rs`, and encoded for HTML in the same walk over the bytes.
+#![tactic(auto)]
+
 ghost use Rattle.std.specs.Prelude.{◌+◌, ◌-◌, ◌≤◌, ◌≡◌, length, drop};
 ghost use Rattle.lent.specs.Fill.{Filled};
 ghost use Rattle.encode.specs.Encode.{encode_of};

@@ -1,4 +1,6 @@
 // How many characters of a URL `normalize` of `sanitize_uri.rs` visits: a triple that is kept is one visit.
+#![tactic(auto)]
+
 ghost use Rattle.std.specs.Prelude.{◌≤◌, ◌<◌, ◌≡◌, length, drop};
 ghost use Rattle.lent.specs.Bytes.{is_alnum};
 ghost use Rattle.url_byte.specs.Byte.{two_alnum};

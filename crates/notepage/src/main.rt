@@ -1,4 +1,6 @@
 // One note bundle on standard input, taken as it comes; its page on standard output, or one line that says why there is none.
+#![tactic(auto)]
+
 ghost use Rattle.std.specs.Prelude.{◌≤◌, true, ◌≡◌, length, take};
 ghost use Rattle.notepage.specs.Came.{CameTo, Turned, no_bytes};
 ghost use Rattle.notepage.specs.Shows.{Shows, ShowsEnd, ShowsNote, off_of, shown_of};
@@ -14,7 +16,7 @@ use machine::{Ending, Options};
 const PAGE_ROOM: usize = 65536;
 
 // The length of a page, or a refusal's number and place; or nothing, where the input could not be read.
-#[derive(Drop)]
+#[derive(Clone, Copy)]
 pub enum Shown {
     Page(usize),
     Refused(u32, usize),
@@ -22,7 +24,7 @@ pub enum Shown {
 }
 
 // What a read of the input comes to: it is to be tried again, bytes came, the input has ended, or it can't be read.
-#[derive(Drop)]
+#[derive(Clone, Copy)]
 pub enum Input {
     Again,
     Some,
@@ -31,7 +33,7 @@ pub enum Input {
 }
 
 // The reader after a read.
-#[derive(Drop)]
+#[derive(Clone, Copy)]
 pub struct Turn {
     pub input: Input,
     pub reader: Reader,

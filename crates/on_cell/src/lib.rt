@@ -1,4 +1,6 @@
 // Handlers of the rows and cells of a table, by their Rust names.
+#![tactic(auto)]
+
 ghost use Rattle.machine.specs.OnCell.{on_enter_gfm_table_cell, on_exit_gfm_table_cell, on_enter_gfm_table_row, on_exit_gfm_table_row};
 ghost use Rattle.machine.specs.Command.{◌▸◌, missing_cells};
 ghost use Rattle.machine.specs.Words.{put};

@@ -1,4 +1,6 @@
 // Handlers of definitions, by their Rust names; and the search for one.
+#![tactic(auto)]
+
 ghost use Rattle.std.specs.Prelude.{◌≡◌, min, ◌+◌, ◌-◌, false};
 ghost use Rattle.regions.specs.Sizes.{region_size};
 ghost use Rattle.machine.specs.Words.{seek_definition};

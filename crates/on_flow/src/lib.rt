@@ -1,4 +1,6 @@
 // Handlers of paragraphs, quotes and code blocks, by their Rust names.
+#![tactic(auto)]
+
 ghost use Rattle.machine.specs.OnFlow.{on_enter_paragraph, on_exit_paragraph, on_enter_block_quote, on_exit_block_quote, on_exit_thematic_break, on_enter_code_indented, on_enter_raw_flow, on_exit_raw_flow_fence, on_exit_raw_flow_fence_info, on_exit_raw_flow, on_exit_raw_flow_chunk};
 ghost use Rattle.std.specs.Prelude.{true};
 ghost use Rattle.machine.specs.Set.{slurp};

@@ -1,4 +1,6 @@
 // Handlers of footnotes, by their Rust names.
+#![tactic(auto)]
+
 ghost use Rattle.machine.specs.OnFootnote.{on_enter_gfm_footnote_call, on_exit_gfm_footnote_call, on_exit_gfm_footnote_definition_label_string, on_exit_gfm_footnote_definition, on_enter_gfm_footnote_definition, on_exit_gfm_footnote_definition_prefix};
 ghost use Rattle.machine.specs.Words.{keep_footnote};
 ghost use Rattle.state_context.specs.Rel.{Any, Sets, Renews};

@@ -1,4 +1,6 @@
 // Handlers of atx headings, by their Rust names.
+#![tactic(auto)]
+
 ghost use Rattle.machine.specs.Words.{rank, keep_rank};
 ghost use Rattle.machine.specs.OnHeading.{on_exit_heading_atx_sequence, on_exit_heading_atx, on_exit_heading_atx_text};
 ghost use Rattle.state_context.specs.Rel.{Any, Sees, Keeps, SetsFor, Takes};

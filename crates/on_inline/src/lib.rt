@@ -1,4 +1,6 @@
 // Handlers of emphasis, strong, breaks, code text and autolinks, by their Rust names.
+#![tactic(auto)]
+
 ghost use Rattle.machine.specs.Set.{alt};
 ghost use Rattle.machine.specs.Test.{is};
 ghost use Rattle.machine.specs.Command.{◌▸◌};

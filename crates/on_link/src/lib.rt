@@ -1,4 +1,6 @@
 // Handlers of links and images up to their ends, by their Rust names.
+#![tactic(auto)]
+
 ghost use Rattle.std.specs.Prelude.{◌≡◌, true, false, ◌-◌};
 ghost use Rattle.machine.specs.Set.{encode};
 ghost use Rattle.machine.specs.Media.{destination, reference_id};

@@ -1,4 +1,6 @@
 // Handlers of lists, by their Rust names.
+#![tactic(auto)]
+
 ghost use Rattle.machine.specs.Test.{is_first_marker, is_tight_paragraph, is_empty_item};
 ghost use Rattle.machine.specs.Words.{when, unless, put, start, line_ending_if_needed};
 ghost use Rattle.machine.specs.OnList.{on_enter_list, on_exit_list, on_enter_list_item_marker, on_exit_list_item_value, on_exit_list_item};

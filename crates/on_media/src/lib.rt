@@ -1,4 +1,6 @@
 // The end of a link or an image, by its Rust name: where it leads, its label and its title are written.
+#![tactic(auto)]
+
 ghost use Rattle.std.specs.Prelude.{◌≤◌};
 ghost use Rattle.regions.specs.Sizes.{kept_at};
 ghost use Rattle.machine.specs.Turn.{url_of};

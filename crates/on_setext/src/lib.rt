@@ -1,4 +1,6 @@
 // Handlers of setext headings, by their Rust names. The text waits among the held bytes until its underline gives the rank.
+#![tactic(auto)]
+
 ghost use Rattle.machine.specs.Command.{◌▸◌};
 ghost use Rattle.machine.specs.Words.{put, line_ending_if_needed, release};
 ghost use Rattle.machine.specs.OnSetext.{setext_rank, on_exit_heading_setext_text, on_exit_heading_setext_underline_sequence};

@@ -1,4 +1,6 @@
 // Handlers of tables and of their heads and bodies, by their Rust names; and the table that is open.
+#![tactic(auto)]
+
 ghost use Rattle.std.specs.Prelude.{◌≡◌};
 ghost use Rattle.event.specs.Event.{columns_of};
 ghost use Rattle.machine.specs.Test.{is_past_columns};

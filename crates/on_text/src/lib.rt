@@ -1,4 +1,6 @@
 // Handlers of data, references, line endings, HTML and captures, by their Rust names.
+#![tactic(auto)]
+
 ghost use Rattle.machine.specs.OnText.{on_exit_html, on_enter_html_text, on_enter_html_flow, on_exit_html_data, on_exit_data, on_exit_character_reference_marker, on_exit_character_reference_marker_numeric, on_exit_character_reference_marker_hexadecimal, on_exit_line_ending, on_exit_blank_line_ending, on_enter_buffer, on_exit_drop, on_exit_character_reference_value};
 ghost use Rattle.state_context.specs.Rel.{Sees, SeesEnding, HtmlAllowed, IsLast, Keeps, Begins, Ends, Sets, SetsFor};
 ghost use Rattle.machine.specs.Test.{is};

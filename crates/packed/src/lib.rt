@@ -1,4 +1,6 @@
 // Small answers packed into one word: a stack of at most 64 bits, and 32 digits of two bits.
+#![tactic(auto)]
+
 ghost use Rattle.std.specs.Prelude.{◌<◌, ◌^◌, ◌≡◌};
 ghost use Rattle.packed.specs.Tight.{More, Fewer, Newest, Any};
 ghost use Rattle.packed.specs.Private.{wider};
@@ -6,7 +8,7 @@ ghost use Rattle.packed.specs.Word.{digit_of, Placed};
 
 // ---- the stack: which containers are tight, say; a bit each, the newest lowest
 
-#[derive(Drop)]
+#[derive(Clone, Copy)]
 pub struct Tight {
     pub bits: u64,
     pub count: usize,

@@ -1,4 +1,6 @@
 // The public calls. Each answers on all inputs, says every byte of the buffer lent to it, and demands nothing of its caller.
+#![tactic(auto)]
+
 ghost use Rattle.std.specs.Prelude.{ℕ, List, ◌≡◌};
 ghost use Rattle.encode.specs.Encode.{encode_of};
 ghost use Rattle.sanitize_uri.specs.Url.{sanitize_of};

@@ -1,6 +1,8 @@
 // What numbers and names give as character references: each run of numbers that give the same, 0 to 11FFFF through hexadecimal
 // digits, then all that seven decimal digits can say; then what each line of the input gives as a name, with HTML 4.01's names and
 // with HTML5's. The file stdout has the numbers of RULES R13.2, and the names of tools/reference_names.
+#![tactic(auto)]
+
 ghost use Rattle.std.specs.Prelude.{◌<◌};
 
 use character_reference::{Marker, Names, Value};

@@ -1,4 +1,6 @@
 // The work bytes are three regions of 16,384: the captures, what is held for open media, what is kept to the end. Bytes go from one to another.
+#![tactic(auto)]
+
 ghost use Rattle.std.specs.Prelude.{◌+◌, ◌-◌, ◌≤◌, min, ◌≡◌, take, drop};
 ghost use Rattle.lent.specs.Fill.{fill};
 ghost use Rattle.regions.specs.Regions.{Carries};

@@ -1,4 +1,6 @@
 // A sync log: its blocks judged in order and replayed, whole or as they come.
+#![tactic(auto)]
+
 ghost use Rattle.std.specs.Prelude.{◌%◌, ◌≤◌, [], ◌≡◌, length};
 ghost use Rattle.lent.specs.Fill.{zeros};
 ghost use Rattle.replay_machine.specs.Records.{Few, state_of, take_records};
@@ -17,7 +19,7 @@ const RECORDS: usize = 31;
 const USED: usize = RECORDS * replay_record::SIZE;
 
 // How many shows there were, how many differ, and the index of the first record that does; or why the log is refused.
-#[derive(Drop)]
+#[derive(Clone, Copy)]
 pub enum Answer {
     Replayed {
         shows: usize,
@@ -28,14 +30,14 @@ pub enum Answer {
 }
 
 // What some blocks come to.
-#[derive(Drop)]
+#[derive(Clone, Copy)]
 pub enum Run {
     Goes(Tally),
     Stops(Refusal),
 }
 
 // The edition of block 0, the number of the next block, and the tally so far.
-#[derive(Drop)]
+#[derive(Clone, Copy)]
 pub struct Place {
     pub edition: u32,
     pub block: usize,
@@ -43,7 +45,7 @@ pub struct Place {
 }
 
 // What is known of a log while it comes: nothing has come, blocks have come, or one was refused.
-#[derive(Drop)]
+#[derive(Clone, Copy)]
 pub enum Reader {
     Empty,
     Going(Place),

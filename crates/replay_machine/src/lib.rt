@@ -1,4 +1,6 @@
 // The machine of a sync log: what is staged and what is current for each note, in two tables that the caller lends.
+#![tactic(auto)]
+
 ghost use Rattle.std.specs.Prelude.{◌*◌, ◌≤◌, ◌<◌, ◌≡◌, length};
 ghost use Rattle.replay_machine.specs.Machine.{counted, showed, stage as staged, swap as swapped, act as acted};
 ghost use Rattle.replay_machine.specs.Records.{Few, state_of, came_by, takes, take_records};
@@ -8,7 +10,7 @@ use replay_record::{Action, Record, SIZE};
 pub const NOTES: usize = 256;
 
 // How many shows there were, how many differ, and how many records stand before the first that does.
-#[derive(Drop)]
+#[derive(Clone, Copy)]
 pub struct Count {
     pub shows: usize,
     pub differ: usize,
@@ -16,13 +18,13 @@ pub struct Count {
 }
 
 // The counts, and whether the zeros have begun.
-#[derive(Drop)]
+#[derive(Clone, Copy)]
 pub struct Tally {
     pub count: Count,
     pub ended: bool,
 }
 
-#[derive(Drop)]
+#[derive(Clone, Copy)]
 pub enum Step {
     Next(Tally),
     Broken,

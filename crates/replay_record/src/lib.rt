@@ -1,18 +1,20 @@
 // One record of a sync log: what it does to a note, or that the records end before it, or that it breaks a rule.
+#![tactic(auto)]
+
 ghost use Rattle.std.specs.Prelude.{◌≡◌, length};
 ghost use Rattle.replay_record.specs.Record.{is_plain, end_of, stage_of, swap_of, act_of, record_of};
 
 pub const SIZE: usize = 16;
 
 // What is done to which note; a stage and a show carry an edition.
-#[derive(Drop)]
+#[derive(Clone, Copy)]
 pub enum Action {
     Stage(u8, u32),
     Swap(u8),
     Show(u8, u32),
 }
 
-#[derive(Drop)]
+#[derive(Clone, Copy)]
 pub enum Record {
     Does(Action),
     End,

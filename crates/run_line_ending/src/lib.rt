@@ -1,4 +1,6 @@
 // The line ending of a page (RULES R9.3): the slice of the earliest exit of one, blank or not, else the default.
+#![tactic(auto)]
+
 ghost use Rattle.std.specs.Prelude.{◌<◌, ◌≤◌, ◌≡◌, length};
 ghost use Rattle.run_line_ending.specs.Ending.{EndsLine, Parses, Finds};
 

@@ -1,4 +1,6 @@
 // Where a pass goes next: the first event from a place on at which something is to be done.
+#![tactic(auto)]
+
 ghost use Rattle.run_next.specs.Idle.{Idles};
 ghost use Rattle.std.specs.Prelude.{◌<◌, true, false, ◌≡◌};
 ghost use Rattle.event.specs.Event.{count_of, event_at};
@@ -32,7 +34,7 @@ pub fn is_idle(kind: u8, name: u8) -> bool
 // ---- the walk
 
 // Where a pass stands: before the event at an index, inside a definition or not.
-#[derive(Drop)]
+#[derive(Clone, Copy)]
 pub struct Place {
     pub at: usize,
     pub inside: bool,

@@ -1,4 +1,6 @@
 // A pass over the events, definitions or all else, and after each event the limits.
+#![tactic(auto)]
+
 ghost use Rattle.std.specs.Prelude.{◌≡◌, length};
 ghost use Rattle.regions.specs.Sizes.{work_size};
 ghost use Rattle.state_kept.specs.Kept.{tables};
@@ -12,7 +14,7 @@ use run_next::Place;
 use state_whole::{Shortage, Whole};
 
 // What a pass comes to: the state after it, or the event after which the work bytes or the output have no room.
-#[derive(Drop)]
+#[derive(Clone, Copy)]
 pub enum Passed {
     On(Whole),
     WorkFull(EventIndex),

@@ -1,4 +1,6 @@
 // The HTML of a note: the line ending, the pass over definitions, the pass over all else, and the footnote section.
+#![tactic(auto)]
+
 ghost use Rattle.std.specs.Prelude.{true, false, ◌≡◌, length};
 ghost use Rattle.regions.specs.Sizes.{work_size};
 ghost use Rattle.state_kept.specs.Kept.{tables};

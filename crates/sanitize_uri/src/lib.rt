@@ -1,4 +1,6 @@
 // URLs made safe, as `sanitize_uri.rs`: percent-encoded, then encoded for HTML, and only with a scheme that is listed.
+#![tactic(auto)]
+
 ghost use Rattle.std.specs.Prelude.{◌≡◌};
 ghost use Rattle.lent.specs.Bytes.{same, mapped, lower, listed};
 ghost use Rattle.lent.specs.Fill.{Filled};
@@ -6,7 +8,7 @@ ghost use Rattle.sanitize_uri.specs.Url.{sanitize_of};
 ghost use Rattle.sanitize_uri.specs.Protocols.{colon_of, schemes_of, is_allowed, sanitize_with_protocols_of};
 
 // Which schemes a URL may have.
-#[derive(Drop)]
+#[derive(Clone, Copy)]
 pub enum Protocols {
     // `a[href]`
     Link,
@@ -15,7 +17,7 @@ pub enum Protocols {
 }
 
 // A colon that comes before the first `?`, `#` or `/`.
-#[derive(Drop)]
+#[derive(Clone, Copy)]
 pub enum Colon {
     At(usize),
     Missing,

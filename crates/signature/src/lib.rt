@@ -1,4 +1,6 @@
 // Signatures of label identities, and the search for a label in a table, which compares only labels of one signature.
+#![tactic(auto)]
+
 ghost use Rattle.std.specs.Prelude.{◌≡◌, ◌-◌, min, take, drop};
 ghost use Rattle.normalize_identifier.specs.Identity.{identity_of};
 ghost use Rattle.signature.specs.Signature.{low_product, high_product, turn, mix, signature_of};
@@ -7,7 +9,7 @@ ghost use Rattle.signature.specs.Signed.{Differs, RowDiffers, Finds};
 use normalize_identifier::{Found, Step};
 
 // What labels of one identity share. Labels of two identities that share it are not made by hand: it has 128 bits, and no step of it is linear.
-#[derive(Drop)]
+#[derive(Clone, Copy)]
 pub struct Signature {
     pub first: usize,
     pub second: usize,

@@ -1,5 +1,7 @@
 // The page and the captures above it: their bytes in lent buffers, one capture behind the other, and their places by value.
 // Where something has no room its place is past the buffer's end, and stays there.
+#![tactic(auto)]
+
 ghost use Rattle.std.specs.Prelude.{◌≡◌, get_or};
 ghost use Rattle.encode.specs.Encode.{encode_of};
 ghost use Rattle.lent.specs.Fill.{Filled};
@@ -11,7 +13,7 @@ use encode_byte::Escaping;
 use machine::Ending;
 
 // The newest capture is the bytes from `start` up to `end`.
-#[derive(Drop)]
+#[derive(Clone, Copy)]
 pub struct Buffers {
     // behind the page
     pub page: usize,

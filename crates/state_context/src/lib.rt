@@ -1,4 +1,6 @@
 // The state of a build by value, the machine's own in code: places, counts and flags. The bytes stand in lent buffers beside it.
+#![tactic(auto)]
+
 ghost use Rattle.std.specs.Prelude.{◌≡◌, ◌<◌};
 ghost use Rattle.std.proofs.Math.Option.{none, some};
 ghost use Rattle.machine.specs.Set.{slurp, encode, raw, alt, head};
@@ -15,14 +17,14 @@ use packed::Tight;
 use state_buffers::Buffers;
 
 // A number that may not be known yet.
-#[derive(Drop)]
+#[derive(Clone, Copy)]
 pub enum Number {
     Unset,
     Is(usize),
 }
 
 // An answer that may not be known yet.
-#[derive(Drop)]
+#[derive(Clone, Copy)]
 pub enum Answer {
     Unset,
     Yes,
@@ -30,21 +32,21 @@ pub enum Answer {
 }
 
 // The marker of a character reference, where one was seen.
-#[derive(Drop)]
+#[derive(Clone, Copy)]
 pub enum Mark {
     Unset,
     Is(Marker),
 }
 
 // The table that is open: its enter's extra field, and the column of the next cell.
-#[derive(Drop)]
+#[derive(Clone, Copy)]
 pub struct Table {
     pub inside: bool,
     pub extra: u64,
     pub column: usize,
 }
 
-#[derive(Drop)]
+#[derive(Clone, Copy)]
 pub struct Context {
     pub buffers: Buffers,
     // the flags, the answers that wait, and what a build never changes: a digit each

@@ -1,5 +1,7 @@
 // What is kept to the end: definitions, footnotes, calls, and the labels of open footnotes. Counts by value; tables of words and the third region of the work bytes beside them.
 // A table is its columns, one behind the other. Where a table is no table of the right size, or full, a function does nothing.
+#![tactic(auto)]
+
 ghost use Rattle.std.specs.Prelude.{◌≡◌, [], ◌∷◌, take, drop, get_or};
 ghost use Rattle.state_kept.specs.Kept.{nothing_kept, column};
 ghost use Rattle.state_kept.specs.Clauses.{OpensLabel, FindsCall, FindsDefinition, FindsFootnote, CountsCall, TellsTimes, KeepsFootnote, KeepsDefinition};
@@ -54,7 +56,7 @@ const LABEL_TO: usize = NOTES;
 
 pub const LABEL_WORDS: usize = 2 * NOTES;
 
-#[derive(Drop)]
+#[derive(Clone, Copy)]
 pub struct Kept {
     // behind the kept bytes, in their region
     pub end: usize,

@@ -1,5 +1,7 @@
 // Open links, images, calls and definitions. Of the newest it is known where it leads, in places of the text, of the held bytes or of the definitions; of the others
 // only whether they are images. A setext heading's text is held there too, while it waits for its underline.
+#![tactic(auto)]
+
 ghost use Rattle.std.specs.Prelude.{true, ◌≡◌};
 ghost use Rattle.machine.specs.Media as M;
 ghost use Rattle.state_media.specs.Links.{no_media, Opens, Closes, IsImage, AnyOlderImage, Identifies, Empties, Leads, Stores, Holds, Releases};
@@ -9,40 +11,40 @@ use event::BytePlace;
 use packed::Tight;
 
 // A piece of the held bytes.
-#[derive(Drop)]
+#[derive(Clone, Copy)]
 pub struct Piece {
     pub place: usize,
     pub length: usize,
 }
 
-#[derive(Drop)]
+#[derive(Clone, Copy)]
 pub enum Text {
     Unset,
     Is(Piece),
 }
 
 // A slice of the note's text.
-#[derive(Drop)]
+#[derive(Clone, Copy)]
 pub struct Span {
     pub from: BytePlace,
     pub to: BytePlace,
 }
 
-#[derive(Drop)]
+#[derive(Clone, Copy)]
 pub enum Label {
     Unset,
     Is(Span),
 }
 
 // Its own, that of the definition at an index, or none.
-#[derive(Drop)]
+#[derive(Clone, Copy)]
 pub enum Destination {
     Nowhere,
     Own(Piece),
     Defined(usize),
 }
 
-#[derive(Drop)]
+#[derive(Clone, Copy)]
 pub struct Media {
     pub label_id: Label,
     pub label: Text,
@@ -51,7 +53,7 @@ pub struct Media {
     pub title: Text,
 }
 
-#[derive(Drop)]
+#[derive(Clone, Copy)]
 pub struct Links {
     // which of the open ones are images
     pub images: Tight,

@@ -1,4 +1,6 @@
 // The newest capture taken off and written: to the page, or behind the capture below it, where its bytes stand already.
+#![tactic(auto)]
+
 ghost use Rattle.std.specs.Prelude.{[], ◌∷◌, ◌++◌, ◌≡◌, ◌+◌, ◌≤◌, ◌<◌, length};
 ghost use Rattle.lent.specs.Bytes.{if◌then◌else◌};
 ghost use Rattle.lent.specs.Fill.{fill, Filled};

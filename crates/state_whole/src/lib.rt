@@ -1,11 +1,13 @@
 // The whole state of a build: the context, the open media, the counts of what is kept; and whether something lacks room after an event.
+#![tactic(auto)]
+
 ghost use Rattle.state_whole.specs.Lacking.{Lacks};
 
 use state_context::Context;
 use state_kept::Kept;
 use state_media::Links;
 
-#[derive(Drop)]
+#[derive(Clone, Copy)]
 pub struct Whole {
     pub context: Context,
     pub links: Links,
@@ -13,7 +15,7 @@ pub struct Whole {
 }
 
 // What lacks room after an event: nothing; the work bytes, refusal 8; else the output, 9.
-#[derive(Drop)]
+#[derive(Clone, Copy)]
 pub enum Shortage {
     Nothing,
     WorkFull,

@@ -1,4 +1,6 @@
 // One byte of a URL, percent-encoded, and encoded for HTML.
+#![tactic(auto)]
+
 ghost use Rattle.std.specs.Prelude.{◌≤◌, ◌<◌, ◌≡◌, length, drop};
 ghost use Rattle.lent.specs.Bytes.{is_alnum, between};
 ghost use Rattle.lent.specs.Fill.{Filled};

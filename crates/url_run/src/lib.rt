@@ -1,4 +1,6 @@
 // How far a run of bytes goes that a URL keeps as they are, found by looking at many bytes together.
+#![tactic(auto)]
+
 ghost use Rattle.std.specs.Prelude.{◌+◌, ◌≤◌, ◌<◌, true, false, ◌≡◌, length, take, drop};
 ghost use Rattle.lent.specs.Bytes.{any};
 ghost use Rattle.url_byte.specs.Private.{is_apart};

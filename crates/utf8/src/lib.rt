@@ -1,4 +1,6 @@
 // UTF-8 by RFC 3629: whether a text is valid, and whether a place of it is inside a character.
+#![tactic(auto)]
+
 ghost use Rattle.std.specs.Prelude.{◌≡◌, ◌+◌, ◌≤◌, length, take, drop};
 ghost use Rattle.utf8.specs.Table.{after_first, next, is_whole, length_of};
 ghost use Rattle.utf8.specs.Wanted.{second_from, second_to};
@@ -8,7 +10,7 @@ ghost use Rattle.utf8.specs.Private.{ascii_run, bits_of};
 // ---- a byte at a time: what is due next
 
 // What is due next: a first byte; `left` more bytes of a character, the next of them from lo to hi; or nothing mends it.
-#[derive(Drop)]
+#[derive(Clone, Copy)]
 pub enum Due {
     First,
     More { left: u8, lo: u8, hi: u8 },

@@ -1,4 +1,6 @@
 // Zeros in a whole lent buffer, where most of it is zero already.
+#![tactic(auto)]
+
 ghost use Rattle.std.specs.Prelude.{◌≡◌, length};
 ghost use Rattle.lent.specs.Bytes.{any};
 ghost use Rattle.lent.specs.Fill.{zeros};

@@ -1,4 +1,6 @@
 // What is written of a footnote: its address, a call, and the way back to each call behind its body. And how a body ends.
+#![tactic(auto)]
+
 ghost use Rattle.std.specs.Prelude.{true, [], ◌∷◌, ◌≡◌, get_or, length, take, drop, ◌+◌, ◌≤◌};
 ghost use Rattle.lent.specs.Bytes.{lower, mapped, bytes, same};
 ghost use Rattle.lent.specs.Fill.{Filled};

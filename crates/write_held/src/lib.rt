@@ -1,4 +1,6 @@
 // Texts of ours, and pieces of what is held or kept, written to the newest buffer. What is held stands behind the captures in the same work bytes.
+#![tactic(auto)]
+
 ghost use Rattle.std.specs.Prelude.{◌≡◌, length, take, drop, ◌≤◌};
 ghost use Rattle.regions.specs.Sizes.{region_size, kept_at};
 ghost use Rattle.machine.specs.Turn.{url_of};

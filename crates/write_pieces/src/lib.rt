@@ -1,4 +1,6 @@
 // What handlers write beside texts of ours: numbers, padded lines, addresses, character references, attributes.
+#![tactic(auto)]
+
 ghost use Rattle.std.specs.Prelude.{◌+◌, ◌<◌, ◌≡◌, replicate, ◌++◌};
 ghost use Rattle.lent.specs.Fill.{Filled};
 ghost use Rattle.machine.specs.Text.{decimal, start_text, start_of, align_text};
@@ -23,7 +25,7 @@ use state_buffers::Buffers;
 // ---- short texts, appended to a lent buffer
 
 // What the digits of an item's value say; nothing where the slice breaks its rule.
-#[derive(Drop)]
+#[derive(Clone, Copy)]
 pub enum Start {
     At(usize),
     Broken,

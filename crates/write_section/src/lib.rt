@@ -1,5 +1,7 @@
 // The footnote section behind the page, when the last event is done: no capture is open then, and all of it goes to the page.
 // Where something has no room its place is past the buffer's end, and stays there.
+#![tactic(auto)]
+
 ghost use Rattle.std.specs.Prelude.{◌≤◌, ◌++◌, length};
 ghost use Rattle.lent.specs.Fill.{Filled};
 ghost use Rattle.machine.specs.Buffers.{ending_bytes};

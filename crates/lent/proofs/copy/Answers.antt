@@ -1,0 +1,15 @@
+-- The loop's invariant: the first `i` bytes are filled in. Assumes nothing.
+use Prim.Native.Nat.{◌-◌}
+use Rattle.lent.proofs.Laws.{copied, copy-none, copy-end}
+use borrow.Author.Rules.{rules}
+use Rattle.lent.proofs.Laws.{copied}
+use Rattle.lent.proofs.copy.Goals as goal
+
+pub loop-i-init : goal.loop-i-init
+loop-i-init c = search (copy-none, rules)
+
+pub loop-i-preserved : goal.loop-i-preserved
+loop-i-preserved c = search (copied, rules)
+
+pub returns : goal.returns
+returns c = search copy-end
