@@ -189,8 +189,8 @@ fn order_at(s: &[u8], packed: &[u8], starts: &[u16], k: usize) -> Order
 
 // The entry of a packed table that has this name, by halving: it lies from `low` up to `high`.
 fn look_up(s: &[u8], packed: &[u8], starts: &[u16], codes: &[u16]) -> Value
-    requires codes_value { is_packed_from packed.now starts.now 0 codes.now ≡ true }
-    requires codes_value_2 { is_ascending (unpacked_from packed.now starts.now 0 codes.now) ≡ true }
+    requires packed { is_packed_from packed.now starts.now 0 codes.now ≡ true }
+    requires ascending { is_ascending (unpacked_from packed.now starts.now 0 codes.now) ≡ true }
     ensures { result ≡ lookup (unpacked_from packed.now starts.now 0 codes.now) s.now }
 {
     let mut low: usize = 0;
