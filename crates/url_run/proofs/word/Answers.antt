@@ -1,0 +1,6 @@
+-- Two halves. Assumes nothing.
+use Rattle.url_run.proofs.Laws.{word-of}
+use Rattle.url_run.proofs.word.Goals as goal
+
+pub returns : goal.returns
+returns c = search word-of
