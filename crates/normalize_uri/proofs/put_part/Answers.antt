@@ -1,0 +1,14 @@
+-- The loop's invariant: what is left is to append the part's bytes from `i` on. Assumes nothing.
+use Prim.Native.Nat.{◌-◌}
+use Rattle.lent.proofs.Laws.{all, step, done}
+use Rattle.normalize_uri.proofs.Laws.{part-more, part_end}
+use Rattle.normalize_uri.proofs.put_part.Goals as goal
+
+pub loop-i-init : goal.loop-i-init
+loop-i-init c = all
+
+pub loop-i-preserved : goal.loop-i-preserved
+loop-i-preserved c = search (step, part-more)
+
+pub returns : goal.returns
+returns c = search (done, part_end)

@@ -1,0 +1,19 @@
+-- The loop's invariant: what is left is to append the bytes from `i` on, whose marks are left too. Assumes nothing.
+use Prim.Native.Nat.{◌-◌}
+use Rattle.lent.proofs.Laws.{all, step, done}
+use Rattle.normalize_uri.proofs.Laws.{part_end}
+use Rattle.normalize_uri.proofs.Runs.{rest-marks, rest-moved, rest-marked}
+use borrow.Author.Rules.{rules}
+use Rattle.normalize_uri.proofs.put_rest.Goals as goal
+
+pub loop-i-init : goal.loop-i-init
+loop-i-init c = (search rules, all)
+
+pub loop-i-preserved-then-mark-eq0 : goal.loop-i-preserved-then-mark-eq0
+loop-i-preserved-then-mark-eq0 c = (search rest-marks, search (step, rest-moved))
+
+pub loop-i-preserved : goal.loop-i-preserved
+loop-i-preserved c = (search rest-marks, search (step, rest-marked))
+
+pub returns : goal.returns
+returns c = search (done, part_end)

@@ -1,0 +1,19 @@
+-- The loop's invariant: what is left is to append the URL's bytes from `i` on. Assumes nothing.
+use Prim.Native.Nat.{◌-◌}
+use Rattle.lent.proofs.Laws.{all, step, last}
+use Rattle.normalize_uri.proofs.Laws.{block_more}
+use Rattle.normalize_uri.proofs.Runs.{window}
+use borrow.Author.Rules.{rules}
+use Rattle.normalize_uri.proofs.put_url.Goals as goal
+
+pub loop-i-init : goal.loop-i-init
+loop-i-init c = (search rules, all)
+
+pub loop-i-preserved-then-is_run : goal.loop-i-preserved-then-is_run
+loop-i-preserved-then-is_run c = (search rules, search (step, window))
+
+pub loop-i-preserved : goal.loop-i-preserved
+loop-i-preserved c = (search rules, search (step, block_more))
+
+pub returns : goal.returns
+returns c = search last
