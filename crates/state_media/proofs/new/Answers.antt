@@ -1,0 +1,6 @@
+-- Nothing is open.
+use mathlib.Core.Path.{refl}
+use Rattle.state_media.proofs.new.Goals as goal
+
+pub returns : goal.returns
+returns c = let e = c.bare-media.ensures in rw e refl
