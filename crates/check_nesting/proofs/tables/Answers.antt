@@ -4,12 +4,8 @@ use Rattle.check_nesting.specs.Grammar.{holds, rules}
 use Rattle.check_nesting.specs.Pass.{turn}
 use Rattle.check_nesting.specs.Tables.{state, states}
 use Rattle.check_nesting.proofs.Entries.{rests, tested}
-use Rattle.check_nesting.proofs.tables.Statement.{statement}
-use Rattle.check_nesting.proofs.tables.Tie as tie
+use Rattle.check_nesting.proofs.tables.Goals as goal
 
-returns : tie.Need-returns
+pub returns : goal.returns
 unfolding rests turn state states holds rules
 returns c = tested _ _ refl refl tt tt refl
-
-pub tables-spec : {M : Type 1} → statement M
-tables-spec = tie.close (tie.spec returns)
