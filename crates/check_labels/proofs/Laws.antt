@@ -1,5 +1,5 @@
 -- What other crates go by: yes exactly when every event holds, else the lowest that does not. Assumes nothing.
-use mathlib.Core.Path.{◌≡◌, refl, sym, ap, ◌∙◌}
+use mathlib.Core.Path.{◌≡◌, refl, sym, ◌∙◌}
 use mathlib.Core.Logic.{◌↔◌}
 use mathlib.Core.Bool.{Bool, true, false, ◌||◌, or-true, true≢false}
 use mathlib.Core.List.{List, [], ◌∷◌}
@@ -14,7 +14,6 @@ use Rattle.normalize_identifier.specs.Identity.{identity_of}
 use Rattle.lent.proofs.Same.{same-iff}
 use Rattle.check_labels.specs.declared.Part.{Part}
 use Rattle.check_labels.specs.declared.Part.TheVariants.{Slice, Nothing}
-use Rattle.check_labels.specs.declared.Labels.{Labels}
 use Rattle.check_labels.specs.declared.Labels.TheVariants.{Yes, At}
 use Rattle.check_labels.specs.Labels.{slice, label_of, identities, label_holds, undefined_from, undefined_of}
 

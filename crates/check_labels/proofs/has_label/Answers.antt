@@ -1,0 +1,18 @@
+-- The loop's invariant: the label is among those left exactly when it is among all. Assumes nothing.
+use Rattle.check_labels.proofs.Next.{search-start, search-skipped, search-found, search-differs, search-end}
+use Rattle.check_labels.proofs.has_label.Goals as goal
+
+pub loop-i-init : goal.loop-i-init
+loop-i-init c = search search-start
+
+pub loop-i-preserved-then-skips : goal.loop-i-preserved-then-skips
+loop-i-preserved-then-skips c = search search-skipped
+
+pub returns-then-same_identity : goal.returns-then-same_identity
+returns-then-same_identity c = search search-found
+
+pub loop-i-preserved : goal.loop-i-preserved
+loop-i-preserved c = search search-differs
+
+pub returns : goal.returns
+returns c = search search-end
