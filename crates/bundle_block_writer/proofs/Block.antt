@@ -1,13 +1,12 @@
 -- What the code goes by on one block: its words, its payload with zeros behind, and the check of what stands there. Assumes nothing.
 use mathlib.Core.Path.{◌≡◌, sym, ap, ◌∙◌}
 use mathlib.Core.List.{List, [], ◌∷◌, ◌++◌, append_assoc}
-use Prim.Native.Nat.{ℕ, suc, ◌+◌, ◌-◌, ◌/◌, ◌%◌, ◌≤◌, ◌<◌}
-use native.Mathlib.Nat.{sub-zero}
+use Prim.Native.Nat.{ℕ, ◌+◌, ◌-◌, ◌≤◌}
 use native.Mathlib.Omega.{arith}
 use lib.ListN.{length, take, drop, length-append, length-take, length-drop, length-replicate}
 use lib.Seq.{take_all, append_snoc, drop-drop}
 use Rattle.lent.specs.Fill.{fill, zeros, Filled}
-use Rattle.lent.proofs.Laws.{Left, all, step, done, both, same, length-filled, fill-behind, take-fill}
+use Rattle.lent.proofs.Laws.{both, same, length-filled, fill-behind, take-fill}
 use Rattle.little.proofs.Laws.{length-little}
 use Rattle.bundle_block.specs.Block.{little, check_of, front_of, block_of}
 use Rattle.bundle_block.proofs.Inverse.{length-block}

@@ -2,11 +2,10 @@
 use mathlib.Core.Path.{◌≡◌, refl, sym, ap, ◌∙◌}
 use mathlib.Core.Bool.{Bool, true, false}
 use mathlib.Core.List.{List, [], ◌∷◌, ◌++◌}
-use Prim.Native.Nat.{ℕ, ◌+◌}
+use Prim.Native.Nat.{ℕ}
 use Rattle.bundle_block.specs.declared.Refusal.TheVariants.{Short}
 use Rattle.bundle_block.specs.Block.{◌before◌, demand}
 use Rattle.bundle_read.specs.declared.Answer.{Answer}
-use Rattle.bundle_read.specs.Bundle.{says}
 use Rattle.bundle_parts.specs.declared.Progress.TheVariants.{Done}
 use Rattle.bundle_parts.specs.Late.{judge_came}
 use Rattle.bundle_parts.specs.declared.Reader.{Reader}

@@ -2,7 +2,6 @@
 use Rattle.std.specs.Prelude.{Bool, ◌&&◌, List, ℕ, eqb, ltb, drop}
 use Rattle.lent.specs.Bytes.{if◌then◌else◌, all}
 use Rattle.bundle_block.specs.Block.{field, is_zero}
-use Rattle.replay_record.specs.declared.Action.{Action}
 use Rattle.replay_record.specs.declared.Action.TheVariants.{Stage, Swap, Show}
 use Rattle.replay_record.specs.declared.Record.{Record}
 use Rattle.replay_record.specs.declared.Record.TheVariants.{Does, End, Faulty}

@@ -1,0 +1,7 @@
+-- All is cleared. Assumes nothing.
+use Rattle.bundle_writer.proofs.Call.{cleared}
+use borrow.Author.Rules.{rules}
+use Rattle.bundle_writer.proofs.refuse.Goals as goal
+
+pub returns : goal.returns
+returns c = (search rules, search cleared)

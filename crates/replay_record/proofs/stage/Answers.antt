@@ -1,0 +1,10 @@
+-- By the edition. Assumes nothing.
+use Rattle.replay_record.proofs.Fields.{stages, stages-not}
+use borrow.Author.Rules.{rules}
+use Rattle.replay_record.proofs.stage.Goals as goal
+
+pub returns-in-0 : goal.returns-in-0
+returns-in-0 c = search (stages-not, rules)
+
+pub returns-in_default : goal.returns-in_default
+returns-in_default c = search (stages, rules)
