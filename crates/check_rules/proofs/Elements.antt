@@ -1,8 +1,8 @@
 -- A link's own parts, by the tree and by the walk that counts what is open. Assumes nothing.
-use mathlib.Core.Path.{◌≡◌, refl, sym, ap, ◌∙◌}
+use mathlib.Core.Path.{◌≡◌, refl, sym, ◌∙◌}
 use mathlib.Core.Bool.{Bool, true, false, ◌&&◌}
-use mathlib.Core.List.{List, [], ◌∷◌}
-use Prim.Native.Nat.{ℕ, zero, suc, ◌+◌, ◌-◌, ◌≤◌, ◌<◌}
+use mathlib.Core.List.{List, ◌∷◌}
+use Prim.Native.Nat.{ℕ, ◌+◌, ◌-◌, ◌≤◌}
 use native.Mathlib.Omega.{arith}
 use borrow.Author.Tests.{ne_eqb, eq-eqb}
 use lib.Dec.{eqb, leb}
@@ -12,8 +12,8 @@ use Rattle.event.specs.Event.{is_enter}
 use Rattle.check_labels.specs.declared.Part.{Part}
 use Rattle.check_labels.specs.declared.Part.TheVariants.{Slice, Nothing}
 use Rattle.check_labels.specs.declared.Turn.TheVariants.{On, Own, Out}
-use Rattle.check_labels.specs.Labels.{turn_of, own_part, unless, or_else, sought_of}
-use Rattle.check_rules.specs.Elements.{Forest, nil, element, list_of, Pair, Paired, child_of, grandchild_of, sought_in}
+use Rattle.check_labels.specs.Labels.{turn_of, own_part, or_else, sought_of}
+use Rattle.check_rules.specs.Elements.{Forest, nil, element, list_of, Paired, child_of, grandchild_of, sought_in}
 
 or-else : (x y z : Part) → or_else (or_else x y) z ≡ or_else x (or_else y z)
 or-else (Slice from to) y z = refl

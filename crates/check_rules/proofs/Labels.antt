@@ -2,19 +2,19 @@
 use mathlib.Core.Path.{◌≡◌, refl, sym, ap, ◌∙◌}
 use mathlib.Core.Bool.{Bool, true, false, ◌||◌}
 use mathlib.Core.List.{List, [], ◌∷◌}
-use Prim.Native.Nat.{ℕ, ◌+◌, ◌/◌, ◌≤◌, ◌<◌}
+use Prim.Native.Nat.{ℕ, ◌+◌, ◌/◌, ◌<◌}
 use native.Mathlib.Decide.{dec_lt}
 use native.Mathlib.Omega.{arith}
 use borrow.Author.Tests.{eqb-true}
 use lib.Dec.{eqb, leb}
 use lib.ListN.{length, drop}
-use Rattle.lent.specs.Bytes.{if◌then◌else◌, one_of}
+use Rattle.lent.specs.Bytes.{one_of}
 use Rattle.event.specs.declared.Event.{Event}
 use Rattle.event.specs.Event.{is_enter, named, event_at, events_of}
 use Rattle.event.proofs.Laws.{events-next, events-end}
 use Rattle.check_labels.specs.declared.Labels.TheVariants.{Yes, At}
 use Rattle.check_labels.specs.Labels.{identities, sought_of, is_defined, label_holds, undefined_of}
-use Rattle.check_labels.proofs.Laws.{Lowest, yes_iff, at-lowest}
+use Rattle.check_labels.proofs.Laws.{yes_iff, at-lowest}
 use Rattle.check_nesting.specs.Tag.{tags_of}
 use Rattle.check_nesting.specs.Nests.{Nests}
 use Rattle.check_rules.specs.Elements.{Forest, ElementAt, sought_in}

@@ -1,13 +1,13 @@
 -- The checker says yes exactly when the rules are met; else the lowest number, and its first event. Assumes nothing.
-use mathlib.Core.Path.{◌≡◌, refl, sym, ap, ◌∙◌}
+use mathlib.Core.Path.{◌≡◌, refl, sym, ◌∙◌}
 use mathlib.Core.Bool.{Bool, true, false, not, ◌&&◌}
 use mathlib.Core.Logic.{◌↔◌}
 use mathlib.Core.List.{List}
-use Prim.Native.Nat.{ℕ, ◌+◌, ◌/◌, ◌%◌, ◌≤◌, ◌<◌}
+use Prim.Native.Nat.{ℕ, ◌+◌, ◌/◌, ◌%◌, ◌<◌}
 use native.Mathlib.Decide.{dec_lt}
 use native.Mathlib.Omega.{arith}
-use borrow.Author.Tests.{leb-true, le-leb, eqb-true, eq-eqb}
-use lib.Dec.{T, eqb, leb}
+use borrow.Author.Tests.{leb-true, le-leb, eqb-true}
+use lib.Dec.{eqb, leb}
 use lib.ListN.{length}
 use Rattle.lent.specs.Bytes.{if◌then◌else◌}
 use Rattle.lent.proofs.Laws.{and_left, and_right}
@@ -34,17 +34,17 @@ use Rattle.check_slices.specs.declared.FirstWrong.{FirstWrong}
 use Rattle.check_slices.specs.declared.FirstWrong.TheVariants as S
 use Rattle.check_slices.specs.Slices.{nothing_seen, seen_behind, event_holds, slices_of}
 use Rattle.check_slices.specs.Counts.{counts_of}
-use Rattle.check_slices.proofs.First.{holds_at, First}
-use Rattle.check_slices.proofs.Laws.{slices-yes, yes-slices, slices-at}
+use Rattle.check_slices.proofs.First.{holds_at}
+use Rattle.check_slices.proofs.Laws.{slices-yes, slices-at}
 use Rattle.check_labels.specs.declared.Labels.{Labels}
 use Rattle.check_labels.specs.declared.Labels.TheVariants as L
 use Rattle.check_labels.specs.Labels.{undefined_of}
 use Rattle.check_list.specs.declared.Checked.{Checked}
-use Rattle.check_list.specs.declared.Checked.TheVariants.{Yes, WrongLength, NotUtf8, Field, Nested, Slice, Count, Label}
-use Rattle.check_list.specs.Checked.{event, sizes_hold, check_of}
+use Rattle.check_list.specs.declared.Checked.TheVariants.{Yes, WrongLength, NotUtf8}
+use Rattle.check_list.specs.Checked.{sizes_hold, check_of}
 use Rattle.check_list.specs.Stairs.{stairs_of, from_fields, from_nesting, from_slices, from_counts, from_labels, after_fields, after_nesting, after_slices, after_counts, after_labels}
 use Rattle.check_list.proofs.Numbers.{stairs}
-use Rattle.check_rules.specs.Rules.{SizesMeet, SliceMeets, CountsMeet, FieldMeets, LabelAt, Each, Meets, Earliest, TooMany, Misplaced, Says, all-met, first, second, third, fourth, fifth, sixth, seventh}
+use Rattle.check_rules.specs.Rules.{SizesMeet, SliceMeets, CountsMeet, FieldMeets, Each, Meets, Earliest, Misplaced, Says, all-met, first, second, third, fourth, fifth, sixth, seventh}
 use Rattle.check_rules.proofs.Before.{clash}
 use Rattle.check_rules.proofs.States.{holds-there, holds-past}
 use Rattle.check_rules.proofs.Slices.{seen_at, tells, slice-meets, slice-holds}

@@ -1,24 +1,20 @@
 -- Rule 5 as the pass has it and as a reader has it. Assumes nothing.
-use mathlib.Core.Path.{◌≡◌, refl, sym, ap, ◌∙◌}
-use mathlib.Core.Bool.{Bool, true, false, true≢false, ◌||◌}
-use mathlib.Core.Logic.{◌↔◌}
-use mathlib.Core.List.{List, ◌∷◌}
-use Prim.Native.Nat.{ℕ, zero, suc, ◌+◌, ◌/◌, ◌≤◌, ◌<◌}
+use mathlib.Core.Path.{◌≡◌, refl, sym, ◌∙◌}
+use mathlib.Core.Bool.{Bool, true, false, ◌||◌}
+use mathlib.Core.List.{List}
+use Prim.Native.Nat.{ℕ, zero, suc, ◌+◌, ◌/◌, ◌≤◌}
 use native.Mathlib.Decide.{ℕ_discrete}
 use native.Mathlib.Numerals.{add-one}
 use native.Mathlib.Omega.{arith}
-use borrow.Author.Tests.{ne_eqb, eqb-true, eqb-false}
-use lib.Dec.{eqb}
-use lib.ListN.{length, drop}
-use Rattle.lent.specs.Bytes.{if◌then◌else◌}
+use borrow.Author.Tests.{ne_eqb}
+use lib.ListN.{length}
 use Rattle.event.specs.declared.Event.{Event}
 use Rattle.event.specs.Event.{is_enter, event_at, events_of}
 use Rattle.event.proofs.Laws.{events-next}
 use Rattle.character_reference.specs.declared.Marker.{Marker}
 use Rattle.character_reference.specs.declared.Marker.TheVariants.{Named, Decimal, Hexadecimal}
-use Rattle.character_reference.specs.Reference.{reference_of, is_some}
 use Rattle.check_slices.specs.declared.Seen.{Seen}
-use Rattle.check_slices.specs.Slices.{nothing_seen, seen_behind, slice_holds, event_holds, is_ending, is_item_value, is_level, is_underline}
+use Rattle.check_slices.specs.Slices.{nothing_seen, seen_behind, slice_holds, event_holds, is_level}
 use Rattle.check_slices.specs.Slices.{with_marker}
 use Rattle.check_slices.proofs.Laws.{behind-heading, behind-enter, behind-sequence, behind-marker, behind-numeric, behind-hexadecimal, behind-exit}
 use Rattle.check_rules.specs.Rules.{Enters, Exits, is_marker, Marks, FirstSequence, slice_at, SliceMeets}
