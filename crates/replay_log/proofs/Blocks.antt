@@ -1,6 +1,6 @@
 -- What the code goes by on the blocks of a log, one by one. Assumes nothing.
 use mathlib.Core.Path.{◌≡◌, refl, sym, ◌∙◌}
-use mathlib.Core.Bool.{Bool, true, false, ◌&&◌}
+use mathlib.Core.Bool.{Bool, ◌&&◌}
 use mathlib.Core.List.{List}
 use Prim.Native.Nat.{ℕ, suc, ◌+◌, ◌-◌, ◌*◌, ◌/◌, ◌≤◌, ◌<◌}
 use native.Mathlib.Nat.{sub-zero}
@@ -29,7 +29,7 @@ use Rattle.replay_machine.specs.Records.{Came, goes, broken, take_records, Few, 
 use Rattle.replay_machine.proofs.Takes.{few-records}
 use Rattle.replay_log.specs.declared.Run.{Run}
 use Rattle.replay_log.specs.declared.Run.TheVariants.{Goes, Stops}
-use Rattle.replay_log.specs.Log.{Course, reads, stops, unless, in_block, take_block, ◌next◌, take_blocks}
+use Rattle.replay_log.specs.Log.{Course, reads, stops, in_block, take_block, ◌next◌, take_blocks}
 use Rattle.replay_log.specs.Stream.{course_by, Within, WithinBy, TookBlock, TookBlocks}
 
 -- ---- a payload

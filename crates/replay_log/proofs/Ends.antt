@@ -1,17 +1,16 @@
 -- The end of a log: what is known then is its replay. Assumes nothing.
-use mathlib.Core.Path.{◌≡◌, refl, sym, ◌∙◌}
-use mathlib.Core.Bool.{true, false, ◌&&◌}
+use mathlib.Core.Path.{◌≡◌, sym, ◌∙◌}
+use mathlib.Core.Bool.{false}
 use mathlib.Core.List.{List, [], ◌++◌}
-use Prim.Native.Nat.{ℕ, ◌+◌, ◌*◌, ◌/◌, ◌%◌, ◌<◌}
+use Prim.Native.Nat.{ℕ, ◌*◌, ◌/◌, ◌%◌, ◌<◌}
 use native.Mathlib.Omega.{arith}
 use borrow.Author.Tests.{lt-ltb, eq-eqb, ne_eqb}
-use lib.Dec.{eqb, ltb}
 use lib.ListN.{length, length-append}
 use Rattle.lent.specs.Fill.{zeros}
 use Rattle.bundle_block.specs.declared.Refusal.{Refusal}
 use Rattle.bundle_block.specs.declared.Refusal.TheVariants.{Broken}
 use Rattle.bundle_block.specs.declared.Verdict.TheVariants.{Good, Bad}
-use Rattle.bundle_block.specs.Block.{edition_in, demand}
+use Rattle.bundle_block.specs.Block.{edition_in}
 use Rattle.bundle_read.specs.Bundle.{judge_length}
 use Rattle.replay_machine.specs.Machine.{start}
 use Rattle.replay_log.specs.declared.Answer.{Answer}
@@ -19,9 +18,9 @@ use Rattle.replay_log.specs.declared.Answer.TheVariants.{Replayed, Refused}
 use Rattle.replay_log.specs.declared.Place.{Place}
 use Rattle.replay_log.specs.declared.Reader.{Reader}
 use Rattle.replay_log.specs.declared.Reader.TheVariants.{Empty, Going, Stopped}
-use Rattle.replay_log.specs.Log.{Course, take_blocks, Meaning, says, refused, meant_by, after_length, replay_of}
+use Rattle.replay_log.specs.Log.{Course, take_blocks, Meaning, says, refused, meant_by, replay_of}
 use Rattle.replay_log.specs.Call.{answer_of, Numbered, HasReplayed}
-use Rattle.replay_log.specs.Stream.{first_place, EmptyBehind, GoingBehind, StoppedBehind, Behind, Took, answer_by, Finished}
+use Rattle.replay_log.specs.Stream.{first_place, Behind, Took, answer_by, Finished}
 
 -- ---- the length
 

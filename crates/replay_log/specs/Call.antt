@@ -1,6 +1,5 @@
 -- The call that replays a sync log: its answer and the answer's numbers. Assumes nothing.
 use Rattle.std.specs.Prelude.{◌≡◌, List, ℕ}
-use Rattle.bundle_block.specs.declared.Refusal.{Refusal}
 use Rattle.bundle_read.specs.Read.{refusal_number, refusal_place}
 use Rattle.replay_log.specs.declared.Answer.{Answer}
 use Rattle.replay_log.specs.declared.Answer.TheVariants.{Replayed, Refused}

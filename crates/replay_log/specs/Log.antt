@@ -1,5 +1,5 @@
 -- A sync log (RULES R21): blocks of records, judged in order and replayed record by record. Assumes nothing.
-use Rattle.std.specs.Prelude.{Bool, true, false, List, ℕ, zero, suc, ◌+◌, ◌*◌, ◌/◌, length, take, drop}
+use Rattle.std.specs.Prelude.{Bool, false, List, ℕ, zero, suc, ◌+◌, ◌*◌, ◌/◌, length, take, drop}
 use Rattle.bundle_block.specs.declared.Refusal.{Refusal}
 use Rattle.bundle_block.specs.declared.Refusal.TheVariants.{Broken}
 use Rattle.bundle_block.specs.declared.Verdict.{Verdict}

@@ -7,7 +7,7 @@ use Rattle.bundle_block.specs.Block.{edition_in}
 use Rattle.replay_record.specs.Record.{note_count}
 use Rattle.replay_machine.specs.declared.Count.{Count}
 use Rattle.replay_machine.specs.declared.Tally.{Tally}
-use Rattle.replay_machine.specs.Machine.{State, nothing, start}
+use Rattle.replay_machine.specs.Machine.{nothing, start}
 use Rattle.replay_machine.specs.Records.{state_of, Few}
 use Rattle.replay_log.specs.declared.Run.{Run}
 use Rattle.replay_log.specs.declared.Run.TheVariants.{Goes, Stops}

@@ -1,5 +1,5 @@
 -- What the code goes by on a run of records, one by one. Assumes nothing.
-use mathlib.Core.Path.{◌≡◌, refl, sym, ◌∙◌}
+use mathlib.Core.Path.{◌≡◌, refl}
 use mathlib.Core.Bool.{Bool, true, false}
 use mathlib.Core.List.{List}
 use Prim.Native.Nat.{ℕ, zero, suc, ◌+◌, ◌-◌, ◌≤◌, ◌<◌}
@@ -11,7 +11,6 @@ use Rattle.replay_record.specs.declared.Action.{Action}
 use Rattle.replay_record.specs.declared.Record.{Record}
 use Rattle.replay_record.specs.declared.Record.TheVariants.{Does, End, Faulty}
 use Rattle.replay_record.specs.Record.{record_of}
-use Rattle.replay_machine.specs.declared.Count.{Count}
 use Rattle.replay_machine.specs.declared.Tally.{Tally}
 use Rattle.replay_machine.specs.declared.Step.{Step}
 use Rattle.replay_machine.specs.declared.Step.TheVariants.{Next, Broken}

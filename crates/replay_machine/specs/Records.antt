@@ -1,10 +1,9 @@
 -- The machine over a log's records as they stand in its bytes (RULES R21.3, R21.5). Assumes nothing.
-use Rattle.std.specs.Prelude.{Bool, true, false, List, ℕ, zero, suc, ◌+◌, ◌≤◌, take, drop}
+use Rattle.std.specs.Prelude.{Bool, true, false, List, ℕ, zero, suc, ◌≤◌, take, drop}
 use Rattle.replay_record.specs.declared.Record.{Record}
 use Rattle.replay_record.specs.declared.Record.TheVariants.{Does, End, Faulty}
 use Rattle.replay_record.specs.Record.{record_of}
 use Rattle.replay_machine.specs.declared.Count.{Count}
-use Rattle.replay_machine.specs.declared.Tally.{Tally}
 use Rattle.replay_machine.specs.declared.Step.{Step}
 use Rattle.replay_machine.specs.declared.Step.TheVariants.{Next, Broken}
 use Rattle.replay_machine.specs.Machine.{State, act}

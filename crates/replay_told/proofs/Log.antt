@@ -1,7 +1,7 @@
 -- The call's answer is the plain machine's on the log's actions, one by one; and no log has a block 65,536. Assumes nothing.
-use mathlib.Core.Path.{◌≡◌, refl, sym, ap, ◌∙◌}
+use mathlib.Core.Path.{◌≡◌, refl, ◌∙◌}
 use mathlib.Core.Bool.{Bool, true, false}
-use mathlib.Core.List.{List, [], ◌∷◌, ◌++◌, append-nil}
+use mathlib.Core.List.{List, [], ◌++◌, append-nil}
 use Prim.Native.Nat.{ℕ, zero, suc, ◌+◌, ◌/◌, ◌≤◌}
 use native.Mathlib.Omega.{arith}
 use lib.ListN.{length, take, drop, get_or}
@@ -11,10 +11,9 @@ use Rattle.bundle_block.specs.declared.Verdict.{Verdict}
 use Rattle.bundle_block.specs.declared.Verdict.TheVariants.{Good, Bad}
 use Rattle.bundle_block.specs.Block.{field, payload_in, judge_block}
 use Rattle.bundle_read.specs.Bundle.{judge_length}
-use Rattle.replay_machine.specs.declared.Count.{Count}
 use Rattle.replay_machine.specs.Machine.{State, start, run}
 use Rattle.replay_machine.specs.Records.{Came, goes, broken, take_records}
-use Rattle.replay_log.specs.Log.{Course, reads, stops, unless, in_block, take_block, ◌next◌, take_blocks, course_of, Meaning, says, meant_by, after_length, replay_of}
+use Rattle.replay_log.specs.Log.{Course, reads, stops, unless, in_block, take_block, ◌next◌, take_blocks, course_of, says, meant_by, after_length, replay_of}
 use Rattle.replay_log.proofs.Blocks.{index-small}
 use Rattle.replay_told.specs.Told.{actions_in, actions_of}
 use Rattle.replay_told.proofs.Machine.{run-both, ended-none, ended-first, ran}

@@ -1,8 +1,8 @@
 -- What a user wants to hear of the machine: right shows, stages without a swap, and one log behind another. Assumes nothing.
-use mathlib.Core.Path.{◌≡◌, refl, sym, ap, ◌∙◌}
+use mathlib.Core.Path.{◌≡◌, refl, ◌∙◌}
 use mathlib.Core.Bool.{Bool, true, false}
 use mathlib.Core.List.{List, [], ◌∷◌, ◌++◌}
-use Prim.Native.Nat.{ℕ, zero, suc, ◌+◌, ◌≤◌, ◌<◌}
+use Prim.Native.Nat.{ℕ, zero, suc}
 use native.Mathlib.Omega.{arith}
 use borrow.Author.Tests.{eq-eqb, ltb-true, ltb-false, eqb-true, eqb-false}
 use lib.Dec.{eqb, ltb}
@@ -14,8 +14,8 @@ use Rattle.replay_record.specs.declared.Action.TheVariants.{Stage, Swap, Show}
 use Rattle.replay_record.specs.declared.Record.{Record}
 use Rattle.replay_record.specs.declared.Record.TheVariants.{Does, End, Faulty}
 use Rattle.replay_record.specs.Record.{record_of}
-use Rattle.replay_machine.specs.Machine.{State, start, showed, swap, act, run}
-use Rattle.replay_machine.specs.Records.{Came, goes, broken, ◌then◌, takes, take_records}
+use Rattle.replay_machine.specs.Machine.{State, start, swap, act, run}
+use Rattle.replay_machine.specs.Records.{goes, ◌then◌, takes, take_records}
 use Rattle.replay_told.specs.Told.{before, actions_in, RightNow, Right, SwapsNot, Unswapped, Alike}
 use Rattle.replay_machine.proofs.Takes.{no-goes}
 

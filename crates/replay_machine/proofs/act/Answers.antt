@@ -1,0 +1,16 @@
+-- By the action. Assumes nothing.
+use Rattle.replay_machine.proofs.Acts.{showed-first, stage-acted, swap-acted, show-acted}
+use borrow.Author.Rules.{rules}
+use Rattle.replay_machine.proofs.act.Goals as goal
+
+pub counted_on-requires-in-Show : goal.counted_on-requires-in-Show
+counted_on-requires-in-Show c = search (showed-first, rules)
+
+pub returns-in-Stage : goal.returns-in-Stage
+returns-in-Stage c = search (stage-acted, rules)
+
+pub returns-in-Swap : goal.returns-in-Swap
+returns-in-Swap c = search (swap-acted, rules)
+
+pub returns-in-Show : goal.returns-in-Show
+returns-in-Show c = search (show-acted, rules)
