@@ -63,9 +63,9 @@ def edited(edit, crates=CRATES):
 def listed(line, crates, order):
     """A line of crates.txt as a copy of these crates has it, or nothing. A crate's own check says nothing about what is
     there for the gate's order alone."""
-    name, _, uses = line.partition('#')[0].partition(':')
+    head, colon, uses = line.partition('#')[0].partition(':')
     left_out = [] if order else line.partition('# order:')[2].split()
-    return f'{name}: {" ".join(use for use in uses.split() if use not in left_out)}\n' if name and name in crates else ''
+    return f'{head}: {" ".join(use for use in uses.split() if use not in left_out)}\n' if colon and head.split()[0] in crates else ''
 
 
 def copied(folder, crates, order=True):
@@ -74,7 +74,7 @@ def copied(folder, crates, order=True):
     shutil.rmtree(folder, ignore_errors=True)
     folder.mkdir(parents=True)
     lines = (ROOT / 'crates.txt').read_text().splitlines()
-    every = [line.partition(':')[0] for line in lines]
+    every = [line.partition(':')[0].split()[0] for line in lines if line.partition('#')[0].strip()]
     (folder / 'crates.txt').write_text(''.join(listed(line, every, order) for line in lines))
     needed = reached(crates, folder / 'crates.txt')[1]
     (folder / 'crates.txt').write_text(''.join(listed(line, needed, order) for line in lines))
