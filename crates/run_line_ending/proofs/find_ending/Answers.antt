@@ -1,5 +1,4 @@
 -- What is left to walk decides.
-use Prim.Native.Nat.{◌-◌}
 use Rattle.run_line_ending.proofs.Laws.{walks, walks-on, found, not_found}
 use Rattle.run_line_ending.proofs.find_ending.Goals as goal
 
