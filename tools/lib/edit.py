@@ -1,13 +1,13 @@
 """Edits: wrong programs and definitions that must be noticed, each a file of the form that `rt must-fail` reads."""
-import pathlib, re, shutil, subprocess
+import pathlib, shutil, subprocess
 from lib import program
 from lib.program import reached
 
 ROOT = pathlib.Path(program.ROOT)
 CRATES = ROOT / 'crates'
 PARTS = ('src', 'specs', 'proofs')
-# what tries the edits of a crate's folder, and the folder: `rt ci` has those of the gate
-FOLDERS = {'gate': 'must-fail', 'more': 'must-fail/more', 'stops': 'must-fail/stops', 'pages': 'must-fail/pages'}
+# what tries the edits of a crate's folder, and the folder: `rt ci` has those of the gate, and calls any below must-fail bad
+FOLDERS = {'gate': 'must-fail', 'more': 'edits/more', 'stops': 'edits/stops', 'pages': 'edits/pages'}
 
 
 class Edit:
@@ -60,37 +60,41 @@ def edited(edit, crates=CRATES):
     return files
 
 
-def without_order(line):
-    """A line of crates.txt without what it has for the gate's order alone: its crate says nothing about that."""
-    uses, order = line[2].split(), line[3].split()
-    return line[1] + ''.join(f' {use}' for use in uses if use not in order)
+def listed(line, crates, order):
+    """A line of crates.txt as a copy of these crates has it, or nothing. A crate's own check says nothing about what is
+    there for the gate's order alone."""
+    head, colon, uses = line.partition('#')[0].partition(':')
+    left_out = [] if order else line.partition('# order:')[2].split()
+    return f'{head}: {" ".join(use for use in uses.split() if use not in left_out)}\n' if colon and head.split()[0] in crates else ''
 
 
-def copied(folder, crates, proved=True, order=True):
-    """These crates and all that they stand on, and what is proved of them, in a folder where edits can be made."""
+def copied(folder, crates, order=True):
+    """These crates and all that they stand on, in a folder outside the repository: `rt ci` refuses a copy within. What `rt`
+    has proved of them stays proved there."""
     shutil.rmtree(folder, ignore_errors=True)
-    for part in ('rlib', 'stamp'):
-        (folder / 'target' / part).mkdir(parents=True)
-    lines = (ROOT / 'crates.txt').read_text()
-    listed = folder / 'crates.txt'
-    listed.write_text(lines if order else re.sub(r'^(\w+:)(.*)# order: (.*)$', without_order, lines, flags=re.M))
-    for crate in reached(crates, listed)[1]:
-        shutil.copytree(CRATES / crate, folder / 'crates' / crate)
-        library, stamp = ROOT / f'target/rlib/{crate}.rlib', ROOT / 'target/stamp' / crate
-        if proved and stamp.exists():
-            shutil.copy(stamp, folder / 'target/stamp')
-        if proved and library.exists():
-            shutil.copytree(library, folder / f'target/rlib/{crate}.rlib')
+    folder.mkdir(parents=True)
+    lines = (ROOT / 'crates.txt').read_text().splitlines()
+    every = [line.partition(':')[0].split()[0] for line in lines if line.partition('#')[0].strip()]
+    (folder / 'crates.txt').write_text(''.join(listed(line, every, order) for line in lines))
+    needed = reached(crates, folder / 'crates.txt')[1]
+    (folder / 'crates.txt').write_text(''.join(listed(line, needed, order) for line in lines))
+    for crate in needed:
+        shutil.copytree(CRATES / crate, folder / 'crates' / crate, ignore=shutil.ignore_patterns('out'))
+
+
+def check_of(folder, crate):
+    """What `rt check` says of a crate of the copy, and of those below it."""
+    return subprocess.run(['rt', 'check'], cwd=folder / 'crates' / crate, stdout=subprocess.PIPE, stderr=subprocess.STDOUT, text=True)
 
 
 def checked(edit, folder, crate):
-    """What `rt check CRATE` says in the copy with the edit made. It is taken back then."""
+    """What `rt check` says of the crate in the copy with the edit made. It is taken back then."""
     files = edited(edit, folder / 'crates')
     before = {path: path.read_text() for path in files}
     try:
         for path, text in files.items():
             path.write_text(text)
-        return subprocess.run(['rt', 'check', crate], cwd=folder, capture_output=True, text=True)
+        return check_of(folder, crate)
     finally:
         for path, text in before.items():
             path.write_text(text)

@@ -3,16 +3,14 @@
 All are tried in one check of a copy. There each question of a handler has a number, and the options say which one is
 forced; the pages are data in a crate of their own. `none` is the definition as it stands, which every page must bear
 out."""
-import re, subprocess
-from lib.edit import CRATES, copied, replaced
+import re
+from lib.edit import CRATES, check_of, copied, replaced
 
 PAGES = sorted(path.stem for path in (CRATES / 'machine_pages/proofs').glob('On*.antt'))
 EVENTS = 'enter, exit, enter_with, exit_with'
-CASE = '''use mathlib.Core.Bool.{Bool, true, false}
-use mathlib.Core.List.{List, []}
-use Prim.Native.Nat.{ℕ}
+CASE = '''use Rattle.std.specs.Prelude.{Bool, true, false, List, [], ℕ}
 use Prim.Native.String.{String}
-use Rattle·event.specs.declared.Event.{Event}
+use Rattle.event.specs.declared.Event.{Event}
 
 pub data Opts : Type 0 where
   off html protocol images on quoted quoted_on : Opts
@@ -35,37 +33,35 @@ abbrev pub stops : Opts → End → List String → List Event → Case
 stops o e t es = record { opts = o; end = e; text = t; events = es; page = []; panics = true }
 
 '''
-NOTICED = '''use mathlib.Core.Bool.{Bool, true, false}
-use mathlib.Core.List.{List, [], _∷_}
-use Prim.Native.Nat.{ℕ}
-use Rattle·cases.specs.Case as K
-use Rattle·cases.specs.Case.{Case, Opts, End}
-use Rattle·machine.specs.declared.Ending.{Ending}
-use Rattle·machine.specs.declared.Ending.the-variants.{Lf, Cr, CrLf}
-use Rattle·machine.specs.declared.Options.{Options}
-use Rattle·machine.proofs.Running.{running}
-use Rattle·machine.proofs.Answers.{shows, stops, options_of}
+NOTICED = '''use Rattle.std.specs.Prelude.{Bool, true, false, List, [], ◌∷◌, ℕ}
+use Rattle.cases.specs.Case as K
+use Rattle.cases.specs.Case.{Case, Opts, End}
+use Rattle.machine.specs.declared.Ending.{Ending}
+use Rattle.machine.specs.declared.Ending.TheVariants.{Lf, Cr, CrLf}
+use Rattle.machine.specs.declared.Options.{Options}
+use Rattle.machine.proofs.Running.{running}
+use Rattle.machine.proofs.Answers.{shows, stops, options_of}
 
 abbrev end_of : End → Ending
 end_of K.Lf = Lf
 end_of K.Cr = Cr
 end_of K.CrLf = CrLf
 
-abbrev optsOf : ℕ → Opts → Ending → Options
-optsOf m K.off e = options_of m false false false false e
-optsOf m K.html e = options_of m false true false false e
-optsOf m K.protocol e = options_of m false false true false e
-optsOf m K.images e = options_of m false false false true e
-optsOf m K.on e = options_of m false true true true e
-optsOf m K.quoted e = options_of m true false false false e
-optsOf m K.quoted_on e = options_of m true true true true e
+abbrev opts_of : ℕ → Opts → Ending → Options
+opts_of m K.off e = options_of m false false false false e
+opts_of m K.html e = options_of m false true false false e
+opts_of m K.protocol e = options_of m false false true false e
+opts_of m K.images e = options_of m false false false true e
+opts_of m K.on e = options_of m false true true true e
+opts_of m K.quoted e = options_of m true false false false e
+opts_of m K.quoted_on e = options_of m true true true true e
 
 abbrev holds : Options → Case → Bool
-holds o c = elim (c .panics) [ true ↦ stops o (c .text) (c .events) | false ↦ shows o (c .text) (c .events) (c .page) ]
+holds o c = elim c.panics [ true ↦ stops o c.text c.events | false ↦ shows o c.text c.events c.page ]
 
 unfoldable pub noticed : ℕ → List Case → Bool
 noticed m [] = false
-noticed m (c ∷ cs) = elim (holds (optsOf m (c .opts) (end_of (c .end))) c) [ true ↦ noticed m cs | false ↦ true ]
+noticed m (c ∷ cs) = elim (holds (opts_of m c.opts (end_of c.end)) c) [ true ↦ noticed m cs | false ↦ true ]
 
 unfoldable pub all : ℕ
 unfolding running noticed
@@ -75,17 +71,17 @@ OWN = 'cases: lent event\nforced: lent event machine cases\n'
 # proofs of the crate machine that say nothing of questions
 UNWANTED = ('CodeText', 'Examples', 'Outcomes', 'Pushes')
 # question k is answered yes where the options force 2 k + 1, and no where they force 2 k + 2
-ANSWERED = '''test (forced k q) t s = if eqb (t .options .forced) (k + k + 1) then go true else \
-if eqb (t .options .forced) (k + k + 2) then go false else test q t s
+ANSWERED = '''test (forced k q) t s = if eqb t.options.forced (k + k + 1) then go true else \
+if eqb t.options.forced (k + k + 2) then go false else test q t s
 test (is f) t s ='''
-OPTIONS = ' options_with : (apostrophes html protocol images : Bool) → Ending → Options\noptionsWith a h p i e ='
-OPTIONS_OF = ' options_of : ℕ → (apostrophes html protocol images : Bool) → Ending → Options\noptionsOf m a h p i e ='
+OPTIONS = ' options_with : (apostrophes html protocol images : Bool) → Ending → Options\noptions_with a h p i e ='
+OPTIONS_OF = ' options_of : ℕ → (apostrophes html protocol images : Bool) → Ending → Options\noptions_of m a h p i e ='
 CHANGES = [
     ('machine/src/lib.rt', 'pub struct Options {\n', 'pub struct Options {\n    pub forced: u64,\n'),
     ('machine/specs/Test.antt', '  is_empty_item : Test\n', '  is_empty_item : Test\n  forced : ℕ → Test → Test\n'),
     ('machine/specs/Test.antt', 'test (is f) t s =', ANSWERED),
-    ('machine/specs/Test.antt', 'use Prim.Native.Nat.{ℕ}',
-     'use Prim.Native.Nat.{ℕ, _+_}\nuse Rattle·lent.specs.Bytes.{if_then_else_}'),
+    ('machine/specs/Test.antt', 'ℕ, eqb, leb, ltb, length}\n',
+     'ℕ, ◌+◌, eqb, leb, ltb, length}\nuse Rattle.lent.specs.Bytes.{if◌then◌else◌}\n'),
     ('machine/proofs/Answers.antt', 'older e = record {', 'older e = record { forced = 0;'),
     ('machine/proofs/Answers.antt', f'{OPTIONS}\n    record {{', f'{OPTIONS_OF}\n    record {{ forced = m;'),
     ('machine/proofs/Answers.antt', 'abbrev pub options :', f'abbrev pub{OPTIONS} options_of 0 a h p i e\n\nabbrev pub options :'),
@@ -103,9 +99,9 @@ NEAR = {
 class Forced:
     """The copy, and its questions: file, handler and words of each, by number."""
 
-    def __init__(self, folder, proved=True):
+    def __init__(self, folder):
         self.folder, self.crates, self.sites = folder, folder / 'crates', []
-        copied(folder, ['machine'], proved)
+        copied(folder, ['machine'])
         with open(folder / 'crates.txt', 'a') as lines:
             lines.write(OWN)
         self.force()
@@ -178,9 +174,9 @@ class Forced:
         self.write('forced/src/lib.rt', '// Forced branches.\n')
         self.write('forced/proofs/Lib.antt', 'mod Noticed\nmod Forced\n')
         self.write('forced/proofs/Noticed.antt', NOTICED)
-        lines = 'use mathlib.Core.Bool.{not}\nuse mathlib.Core.List.{_++_}\nuse lib.Dec.{T}\n'
-        lines += 'use Rattle·forced·proofs.proofs.Noticed.{noticed, all}\n'
-        lines += ''.join(f'use Rattle·cases.specs.{page} as {page}\n' for page in PAGES)
+        lines = 'use Rattle.std.specs.Prelude.{T, not, ◌++◌}\n'
+        lines += 'use Rattle.forced.proofs.Noticed.{noticed, all}\n'
+        lines += ''.join(f'use Rattle.cases.specs.{page} as {page}\n' for page in PAGES)
         unfolding = 'unfolding all ' + ' '.join(f'{page}.cases' for page in PAGES)
         for number in numbers:
             first = NEAR.get(self.sites[(number - 1) // 2][0], '').split() if number else []
@@ -191,17 +187,17 @@ class Forced:
     def lost(self, numbers):
         """Those that no page shows; with 0, that a page does not bear out the definition itself."""
         self.write_proofs(numbers)
-        said = subprocess.run(['rt', 'check', 'forced'], cwd=self.folder, capture_output=True, text=True).stdout
-        errors = [line for line in said.splitlines() if ': error' in line]
-        if 'rt: ok' not in said and not (errors and all('/Forced.antt' in line for line in errors)):
-            raise ValueError(said[-2000:])
-        return {int(number) for number in re.findall(r'error: `m(\d+)`', said)}
+        check = check_of(self.folder, 'forced')
+        errors = [line for line in check.stdout.splitlines() if ': error' in line]
+        if check.returncode and not (errors and all('/Forced.antt' in line for line in errors)):
+            raise ValueError(check.stdout[-2000:])
+        return {int(number) for number in re.findall(r'error: `m(\d+)`', check.stdout)}
 
 
 def case_lines(found):
     names = [name for name, *_ in found]
     used = f'Case, shows, stops, off, html, protocol, images, on, quoted, quoted_on, Lf, Cr, CrLf, {EVENTS}'
-    lines = f'use mathlib.Core.List.{{List, [], _∷_}}\nuse Rattle·cases·specs.specs.Case.{{{used}}}\n\n'
+    lines = f'use Rattle.std.specs.Prelude.{{List, [], ◌∷◌}}\nuse Rattle.cases.specs.Case.{{{used}}}\n\n'
     for name, kind, options, rest in found:
         lines += f'unfoldable pub {name} : Case\n{name} = {kind} {options} {rest}\n\n'
     return lines + f'unfoldable pub cases : List Case\nunfolding {" ".join(names)}\ncases = {" ∷ ".join(names)} ∷ []\n'

@@ -17,7 +17,6 @@ use Rattle.machine.specs.Turn.{Turn, span_of, slice_of, as_str, own_str}
 use Rattle.machine.specs.Text.{code_of}
 use Rattle.machine.specs.Media as M
 use Rattle.machine.specs.Media.{new_media, on_newest, with_part, with_id}
-use Rattle.machine.specs.Test.{test}
 use Rattle.machine.specs.Command.{Command, nothing, step, ◌▸◌, whether, missing_cells, Step, write, capture, setext, mode, wait, column, medium, retain, text_of, Capture, buffer, drop, resume, resume_code, capturing, Setext, hold, release, holding, Mode, set, leave_image, open_container, close_container, setting, Wait, keep_rank, forget_rank, seen_data, fences, count_fence, marker, reference, first, awaiting, Column, columns, no_columns, next_column, first_column, counting, Medium, open_media, close_media, store, empty_destination, identify, seek_definition, knowing, Keep, keep_definition, footnote_label, keep_footnote, call, keeping, tail, perform, repeat, exec}
 use Rattle.machine_clean.proofs.Safe.{Safe, stops, halts, goes as on, chain, any}
 use Rattle.machine_shape.specs.Shape.{Say, Shape, changed, over, gone, idle, seq, covers, keep_all}

@@ -9,7 +9,7 @@ use borrow.Author.Tests.{eqb-true, ne_eqb}
 use Rattle.event.specs.declared.Event.{Event}
 use Rattle.check_nesting.specs.Grammar.{name_of, holds}
 use Rattle.check_nesting.specs.Nests.{Takes}
-use Rattle.check_rules.specs.Elements.{Forest, element, list_of, Pair}
+use Rattle.check_rules.specs.Elements.{Forest, list_of, Pair}
 use Rattle.machine.specs.declared.Options.{Options}
 use Rattle.machine.specs.Outcome.{go}
 use Rattle.machine.specs.State.{State}

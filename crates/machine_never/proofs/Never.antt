@@ -5,7 +5,6 @@ use mathlib.Core.List.{List, []}
 use mathlib.Core.Option.{Option, none}
 use Prim.Native.Nat.{ℕ}
 use lib.ListN.{length}
-use Rattle.lent.specs.Bytes.{same}
 use Rattle.event.specs.Event.{events_of}
 use Rattle.check_rules.specs.Rules.{Meets}
 use Rattle.check_rules.proofs.Meets.{yes-meets}

@@ -8,7 +8,7 @@ use Prim.Native.Nat.{ℕ}
 use lib.Dec.{T, eqb}
 use borrow.Author.Tests.{eq-eqb}
 use Rattle.lent.specs.Bytes.{one_of}
-use Rattle.check_nesting.specs.Grammar.{one, name_of, holds, rules, call_label}
+use Rattle.check_nesting.specs.Grammar.{name_of, holds, rules, call_label}
 use Rattle.check_nesting.specs.Nests.{Takes}
 use Rattle.check_rules.specs.Elements.{Forest, child_of}
 use Rattle.machine_shape.specs.Fits.{every}

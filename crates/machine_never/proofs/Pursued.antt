@@ -22,7 +22,7 @@ use Rattle.machine.specs.Handlers.{rows}
 use Rattle.machine.specs.Footnote.{call_index, count_at}
 use Rattle.machine.specs.OnFootnote.{on_exit_gfm_footnote_call, on_exit_gfm_footnote_definition, on_exit_gfm_footnote_definition_label_string}
 use Rattle.machine_shape.proofs.Run.{decide}
-use Rattle.machine_never.specs.Values.{Ids, Values, labels, notes, calls, add_call, do_to, text_of, effects_of}
+use Rattle.machine_never.specs.Values.{Ids, Values, notes, add_call, do_to, text_of, effects_of}
 use Rattle.machine_never.specs.Ghost.{effects_at, all_effects}
 use Rattle.machine_never.specs.Known.{Has, HasPart, Known}
 use Rattle.machine_never.specs.Tally.{Tally}

@@ -32,7 +32,7 @@ use Rattle.machine_shape.specs.Pass.{placed, behind, turn_at}
 use Rattle.machine_shape.proofs.Says.{both}
 use Rattle.machine_shape.proofs.Test.{computed}
 use Rattle.machine_shape.proofs.Passes.{Between}
-use Rattle.machine_never.specs.Values.{ids_in, Values, values, Effect, labels, do_to, effects_of, tracks}
+use Rattle.machine_never.specs.Values.{ids_in, Values, values, Effect, do_to, effects_of, tracks}
 use Rattle.machine_never.specs.Ghost.{effects_at, ids_run, ids_of, Prefix, all_effects}
 use Rattle.machine_never.specs.Here.{Here}
 use Rattle.machine_never.proofs.Tracked.{tracked}

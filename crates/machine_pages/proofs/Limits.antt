@@ -1,8 +1,7 @@
 -- Refusals 8 and 9 with their places, and what just fits. The answers are read off RULES R7.6 and R8.3 by hand. Assumes nothing.
-use mathlib.Core.Bool.{Bool, ◌&&◌}
+use mathlib.Core.Bool.{◌&&◌}
 use mathlib.Core.List.{List, [], ◌∷◌, ◌++◌}
-use Prim.Native.Nat.{ℕ, ◌+◌}
-use Prim.Native.String.{String}
+use Prim.Native.Nat.{ℕ}
 use lib.Dec.{T}
 use lib.ListN.{replicate}
 use Rattle.lent.specs.Bytes.{bytes}

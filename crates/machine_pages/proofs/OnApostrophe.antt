@@ -1,9 +1,9 @@
 -- Apostrophes, escaped and not: pages of the crate markdown 1.0.0. Made by tools/machine_pages. Assumes nothing.
 use mathlib.Core.List.{[], ◌∷◌}
 use lib.Dec.{T}
-use Rattle.machine.specs.declared.Ending.TheVariants.{Lf, Cr, CrLf}
+use Rattle.machine.specs.declared.Ending.TheVariants.{Lf}
 use Rattle.machine.proofs.Running.{running}
-use Rattle.machine.proofs.Answers.{shows, stops, off, html, protocol, images, on, quoted, quoted_on, enter, exit, enter_with, exit_with}
+use Rattle.machine.proofs.Answers.{shows, off, html, protocol, on, quoted, quoted_on, enter, exit, enter_with}
 
 v1 : T (shows (off Lf) ("it's *a'b* `c'd`" ∷ []) (enter 12 ∷ enter 5 ∷ exit 5 0 5 ∷ enter 39 ∷ enter 0 ∷ exit 0 5 6 ∷ enter 0 ∷ enter 5 ∷ exit 5 6 9 ∷ exit 0 6 9 ∷ enter 0 ∷ exit 0 9 10 ∷ exit 39 5 10 ∷ enter 5 ∷ exit 5 10 11 ∷ enter 33 ∷ enter 0 ∷ exit 0 11 12 ∷ enter 34 ∷ exit 34 12 15 ∷ enter 0 ∷ exit 0 15 16 ∷ exit 33 11 16 ∷ exit 12 0 16 ∷ []) ("<p>it's <em>a'b</em> <code>c'd</code></p>" ∷ []))
 unfolding running

@@ -1,9 +1,9 @@
 -- Autolinks: pages of the crate markdown 1.0.0. Made by tools/machine_pages. Assumes nothing.
 use mathlib.Core.List.{[], ◌∷◌}
 use lib.Dec.{T}
-use Rattle.machine.specs.declared.Ending.TheVariants.{Lf, Cr, CrLf}
+use Rattle.machine.specs.declared.Ending.TheVariants.{Lf}
 use Rattle.machine.proofs.Running.{running}
-use Rattle.machine.proofs.Answers.{shows, stops, off, html, protocol, images, on, quoted, quoted_on, enter, exit, enter_with, exit_with}
+use Rattle.machine.proofs.Answers.{shows, off, protocol, on, enter, exit}
 
 v1 : T (shows (off Lf) ("<a@b.c>" ∷ []) (enter 12 ∷ enter 0 ∷ enter 0 ∷ exit 0 0 1 ∷ enter 43 ∷ exit 43 1 6 ∷ enter 0 ∷ exit 0 6 7 ∷ exit 0 0 7 ∷ exit 12 0 7 ∷ []) ("<p><a href=\"mailto:a@b.c\">a@b.c</a></p>" ∷ []))
 unfolding running

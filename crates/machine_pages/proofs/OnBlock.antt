@@ -3,7 +3,7 @@ use mathlib.Core.List.{[], ◌∷◌}
 use lib.Dec.{T}
 use Rattle.machine.specs.declared.Ending.TheVariants.{Lf, Cr, CrLf}
 use Rattle.machine.proofs.Running.{running}
-use Rattle.machine.proofs.Answers.{shows, stops, off, html, protocol, images, on, quoted, quoted_on, enter, exit, enter_with, exit_with}
+use Rattle.machine.proofs.Answers.{shows, off, html, on, enter, exit, exit_with}
 
 v1 : T (shows (off Lf) ("#" ∷ []) (enter 13 ∷ enter 14 ∷ exit 14 0 1 ∷ exit 13 0 1 ∷ []) ("<h1></h1>" ∷ []))
 unfolding running

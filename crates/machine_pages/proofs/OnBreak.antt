@@ -1,9 +1,9 @@
 -- Hard breaks: pages of the crate markdown 1.0.0. Made by tools/machine_pages. Assumes nothing.
 use mathlib.Core.List.{[], ◌∷◌}
 use lib.Dec.{T}
-use Rattle.machine.specs.declared.Ending.TheVariants.{Lf, Cr, CrLf}
+use Rattle.machine.specs.declared.Ending.TheVariants.{Lf}
 use Rattle.machine.proofs.Running.{running}
-use Rattle.machine.proofs.Answers.{shows, stops, off, html, protocol, images, on, quoted, quoted_on, enter, exit, enter_with, exit_with}
+use Rattle.machine.proofs.Answers.{shows, off, enter, exit}
 
 v1 : T (shows (off Lf) ("a  \nb" ∷ []) (enter 12 ∷ enter 5 ∷ exit 5 0 1 ∷ enter 42 ∷ exit 42 1 3 ∷ enter 3 ∷ exit 3 3 4 ∷ enter 5 ∷ exit 5 4 5 ∷ exit 12 0 5 ∷ []) ("<p>a<br />\nb</p>" ∷ []))
 unfolding running

@@ -1,9 +1,9 @@
 -- Character references, escapes, plain text: pages of the crate markdown 1.0.0. Made by tools/machine_pages. Assumes nothing.
 use mathlib.Core.List.{[], ◌∷◌}
 use lib.Dec.{T}
-use Rattle.machine.specs.declared.Ending.TheVariants.{Lf, Cr, CrLf}
+use Rattle.machine.specs.declared.Ending.TheVariants.{Lf}
 use Rattle.machine.proofs.Running.{running}
-use Rattle.machine.proofs.Answers.{shows, stops, off, html, protocol, images, on, quoted, quoted_on, enter, exit, enter_with, exit_with}
+use Rattle.machine.proofs.Answers.{shows, off, quoted, quoted_on, enter, exit}
 
 v1 : T (shows (off Lf) ("&amp; &lt; &gt; &quot; &nbsp;" ∷ []) (enter 12 ∷ enter 7 ∷ enter 8 ∷ exit 8 0 1 ∷ enter 11 ∷ exit 11 1 4 ∷ enter 0 ∷ exit 0 4 5 ∷ exit 7 0 5 ∷ enter 5 ∷ exit 5 5 6 ∷ enter 7 ∷ enter 8 ∷ exit 8 6 7 ∷ enter 11 ∷ exit 11 7 9 ∷ enter 0 ∷ exit 0 9 10 ∷ exit 7 6 10 ∷ enter 5 ∷ exit 5 10 11 ∷ enter 7 ∷ enter 8 ∷ exit 8 11 12 ∷ enter 11 ∷ exit 11 12 14 ∷ enter 0 ∷ exit 0 14 15 ∷ exit 7 11 15 ∷ enter 5 ∷ exit 5 15 16 ∷ enter 7 ∷ enter 8 ∷ exit 8 16 17 ∷ enter 11 ∷ exit 11 17 21 ∷ enter 0 ∷ exit 0 21 22 ∷ exit 7 16 22 ∷ enter 5 ∷ exit 5 22 23 ∷ enter 7 ∷ enter 8 ∷ exit 8 23 24 ∷ enter 11 ∷ exit 11 24 28 ∷ enter 0 ∷ exit 0 28 29 ∷ exit 7 23 29 ∷ exit 12 0 29 ∷ []) ("<p>&amp; &lt; &gt; &quot; Â\u{a0}</p>" ∷ []))
 unfolding running

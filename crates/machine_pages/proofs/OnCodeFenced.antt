@@ -3,7 +3,7 @@ use mathlib.Core.List.{[], ◌∷◌}
 use lib.Dec.{T}
 use Rattle.machine.specs.declared.Ending.TheVariants.{Lf, Cr, CrLf}
 use Rattle.machine.proofs.Running.{running}
-use Rattle.machine.proofs.Answers.{shows, stops, off, html, protocol, images, on, quoted, quoted_on, enter, exit, enter_with, exit_with}
+use Rattle.machine.proofs.Answers.{shows, off, enter, exit, enter_with, exit_with}
 
 v1 : T (shows (off Lf) ("```\na\n```" ∷ []) (enter 28 ∷ enter 29 ∷ enter 0 ∷ exit 0 0 3 ∷ exit 29 0 3 ∷ enter 3 ∷ exit 3 3 4 ∷ enter 32 ∷ exit 32 4 5 ∷ enter 3 ∷ exit 3 5 6 ∷ enter 29 ∷ enter 0 ∷ exit 0 6 9 ∷ exit 29 6 9 ∷ exit 28 0 9 ∷ []) ("<pre><code>a\n</code></pre>" ∷ []))
 unfolding running

@@ -3,7 +3,7 @@ use mathlib.Core.List.{[], ◌∷◌}
 use lib.Dec.{T}
 use Rattle.machine.specs.declared.Ending.TheVariants.{Lf, Cr, CrLf}
 use Rattle.machine.proofs.Running.{running}
-use Rattle.machine.proofs.Answers.{shows, stops, off, html, protocol, images, on, quoted, quoted_on, enter, exit, enter_with, exit_with}
+use Rattle.machine.proofs.Answers.{shows, off, enter, exit, enter_with, exit_with}
 
 v1 : T (shows (off Lf) ("    a" ∷ []) (enter 27 ∷ enter 1 ∷ exit 1 0 4 ∷ enter 32 ∷ exit 32 4 5 ∷ exit 27 0 5 ∷ []) ("<pre><code>a\n</code></pre>" ∷ []))
 unfolding running

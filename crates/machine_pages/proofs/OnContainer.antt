@@ -1,9 +1,9 @@
 -- Containers in containers: pages of the crate markdown 1.0.0. Made by tools/machine_pages. Assumes nothing.
 use mathlib.Core.List.{[], ◌∷◌}
 use lib.Dec.{T}
-use Rattle.machine.specs.declared.Ending.TheVariants.{Lf, Cr, CrLf}
+use Rattle.machine.specs.declared.Ending.TheVariants.{Lf}
 use Rattle.machine.proofs.Running.{running}
-use Rattle.machine.proofs.Answers.{shows, stops, off, html, protocol, images, on, quoted, quoted_on, enter, exit, enter_with, exit_with}
+use Rattle.machine.proofs.Answers.{shows, off, enter, exit, enter_with}
 
 v1 : T (shows (off Lf) ("- a\n\n  - b\n\n    > c\n    > - d\n    >\n    >   [^x]\n\n[^x]: e\n" ∷ []) (enter_with 22 1 ∷ enter 23 ∷ enter 24 ∷ enter 25 ∷ exit 25 0 1 ∷ enter 1 ∷ exit 1 1 2 ∷ exit 24 0 2 ∷ enter 12 ∷ enter 5 ∷ exit 5 2 3 ∷ exit 12 2 3 ∷ enter 3 ∷ exit 3 3 4 ∷ enter 4 ∷ exit 4 4 5 ∷ enter 1 ∷ exit 1 5 7 ∷ enter_with 22 1 ∷ enter 23 ∷ enter 24 ∷ enter 25 ∷ exit 25 7 8 ∷ enter 1 ∷ exit 1 8 9 ∷ exit 24 7 9 ∷ enter 12 ∷ enter 5 ∷ exit 5 9 10 ∷ exit 12 9 10 ∷ enter 3 ∷ exit 3 10 11 ∷ enter 4 ∷ exit 4 11 12 ∷ enter 1 ∷ exit 1 12 14 ∷ enter 1 ∷ exit 1 14 16 ∷ enter 20 ∷ enter 2 ∷ enter 0 ∷ exit 0 16 17 ∷ enter 1 ∷ exit 1 17 18 ∷ exit 2 16 18 ∷ enter 12 ∷ enter 5 ∷ exit 5 18 19 ∷ exit 12 18 19 ∷ enter 3 ∷ exit 3 19 20 ∷ enter 1 ∷ exit 1 20 22 ∷ enter 1 ∷ exit 1 22 24 ∷ enter 2 ∷ enter 0 ∷ exit 0 24 25 ∷ enter 1 ∷ exit 1 25 26 ∷ exit 2 24 26 ∷ enter_with 22 1 ∷ enter 23 ∷ enter 24 ∷ enter 25 ∷ exit 25 26 27 ∷ enter 1 ∷ exit 1 27 28 ∷ exit 24 26 28 ∷ enter 12 ∷ enter 5 ∷ exit 5 28 29 ∷ exit 12 28 29 ∷ enter 3 ∷ exit 3 29 30 ∷ enter 1 ∷ exit 1 30 32 ∷ enter 1 ∷ exit 1 32 34 ∷ enter 2 ∷ enter 0 ∷ exit 0 34 35 ∷ exit 2 34 35 ∷ enter 4 ∷ exit 4 35 36 ∷ enter 1 ∷ exit 1 36 38 ∷ enter 1 ∷ exit 1 38 40 ∷ enter 2 ∷ enter 0 ∷ exit 0 40 41 ∷ enter 1 ∷ exit 1 41 42 ∷ exit 2 40 42 ∷ enter 1 ∷ exit 1 42 44 ∷ enter 12 ∷ enter 62 ∷ enter 47 ∷ enter 0 ∷ enter 0 ∷ exit 0 44 45 ∷ enter 0 ∷ exit 0 45 46 ∷ exit 0 44 46 ∷ enter 48 ∷ enter 5 ∷ exit 5 46 47 ∷ exit 48 46 47 ∷ enter 0 ∷ enter 0 ∷ exit 0 47 48 ∷ exit 0 47 48 ∷ exit 47 44 48 ∷ exit 62 44 48 ∷ exit 12 44 48 ∷ exit 23 26 48 ∷ exit 22 26 48 ∷ exit 20 16 48 ∷ enter 3 ∷ exit 3 48 49 ∷ exit 23 7 49 ∷ exit 22 7 49 ∷ exit 23 0 49 ∷ exit 22 0 49 ∷ enter 4 ∷ exit 4 49 50 ∷ enter 63 ∷ enter 64 ∷ enter 0 ∷ enter 0 ∷ exit 0 50 51 ∷ enter 0 ∷ exit 0 51 52 ∷ enter 65 ∷ enter 5 ∷ exit 5 52 53 ∷ exit 65 52 53 ∷ enter 0 ∷ exit 0 53 54 ∷ exit 0 50 54 ∷ enter 0 ∷ exit 0 54 55 ∷ enter 1 ∷ exit 1 55 56 ∷ exit 64 50 56 ∷ enter 12 ∷ enter 5 ∷ exit 5 56 57 ∷ exit 12 56 57 ∷ exit 63 50 57 ∷ enter 3 ∷ exit 3 57 58 ∷ []) ("<ul>\n<li>\n<p>a</p>\n<ul>\n<li>\n<p>b</p>\n<blockquote>\n<p>c</p>\n<ul>\n<li>\n<p>d</p>\n<p><sup><a href=\"#user-content-fn-x\" id=\"user-content-fnref-x\" data-footnote-ref=\"\" aria-describedby=\"footnote-label\">1</" ∷ "a></sup></p>\n</li>\n</ul>\n</blockquote>\n</li>\n</ul>\n</li>\n</ul>\n<section data-footnotes=\"\" class=\"footnotes\"><h2 id=\"footnote-label\" class=\"sr-only\">Footnotes</h2>\n<ol>\n<li id=\"user-content-fn-x\">\n<p>e" ∷ " <a href=\"#user-content-fnref-x\" data-footnote-backref=\"\" aria-label=\"Back to content\" class=\"data-footnote-backref\">â\u{86}©</a></p>\n</li>\n</ol>\n</section>\n" ∷ []))
 unfolding running

@@ -1,9 +1,9 @@
 -- Definitions and references: pages of the crate markdown 1.0.0. Made by tools/machine_pages. Assumes nothing.
 use mathlib.Core.List.{[], ◌∷◌}
 use lib.Dec.{T}
-use Rattle.machine.specs.declared.Ending.TheVariants.{Lf, Cr, CrLf}
+use Rattle.machine.specs.declared.Ending.TheVariants.{Lf}
 use Rattle.machine.proofs.Running.{running}
-use Rattle.machine.proofs.Answers.{shows, stops, off, html, protocol, images, on, quoted, quoted_on, enter, exit, enter_with, exit_with}
+use Rattle.machine.proofs.Answers.{shows, off, protocol, images, on, quoted, quoted_on, enter, exit, enter_with}
 
 v1 : T (shows (off Lf) ("[a]\n\n[a]: b" ∷ []) (enter 12 ∷ enter 45 ∷ enter 47 ∷ enter 0 ∷ enter 0 ∷ exit 0 0 1 ∷ exit 0 0 1 ∷ enter 48 ∷ enter 5 ∷ exit 5 1 2 ∷ exit 48 1 2 ∷ enter 0 ∷ enter 0 ∷ exit 0 2 3 ∷ exit 0 2 3 ∷ exit 47 0 3 ∷ exit 45 0 3 ∷ exit 12 0 3 ∷ enter 3 ∷ exit 3 3 4 ∷ enter 4 ∷ exit 4 4 5 ∷ enter 53 ∷ enter 0 ∷ enter 0 ∷ exit 0 5 6 ∷ enter 54 ∷ enter 5 ∷ exit 5 6 7 ∷ exit 54 6 7 ∷ enter 0 ∷ exit 0 7 8 ∷ exit 0 5 8 ∷ enter 0 ∷ exit 0 8 9 ∷ enter 1 ∷ exit 1 9 10 ∷ enter 0 ∷ enter 0 ∷ enter 55 ∷ enter 5 ∷ exit 5 10 11 ∷ exit 55 10 11 ∷ exit 0 10 11 ∷ exit 0 10 11 ∷ exit 53 5 11 ∷ []) ("<p><a href=\"b\">a</a></p>\n" ∷ []))
 unfolding running

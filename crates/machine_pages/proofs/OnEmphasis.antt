@@ -1,9 +1,9 @@
 -- Emphasis and strong: pages of the crate markdown 1.0.0. Made by tools/machine_pages. Assumes nothing.
 use mathlib.Core.List.{[], ◌∷◌}
 use lib.Dec.{T}
-use Rattle.machine.specs.declared.Ending.TheVariants.{Lf, Cr, CrLf}
+use Rattle.machine.specs.declared.Ending.TheVariants.{Lf}
 use Rattle.machine.proofs.Running.{running}
-use Rattle.machine.proofs.Answers.{shows, stops, off, html, protocol, images, on, quoted, quoted_on, enter, exit, enter_with, exit_with}
+use Rattle.machine.proofs.Answers.{shows, off, enter, exit}
 
 v1 : T (shows (off Lf) ("*a*" ∷ []) (enter 12 ∷ enter 39 ∷ enter 0 ∷ exit 0 0 1 ∷ enter 0 ∷ enter 5 ∷ exit 5 1 2 ∷ exit 0 1 2 ∷ enter 0 ∷ exit 0 2 3 ∷ exit 39 0 3 ∷ exit 12 0 3 ∷ []) ("<p><em>a</em></p>" ∷ []))
 unfolding running

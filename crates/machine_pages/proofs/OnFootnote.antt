@@ -1,9 +1,9 @@
 -- Footnotes: pages of the crate markdown 1.0.0. Made by tools/machine_pages. Assumes nothing.
 use mathlib.Core.List.{[], ◌∷◌}
 use lib.Dec.{T}
-use Rattle.machine.specs.declared.Ending.TheVariants.{Lf, Cr, CrLf}
+use Rattle.machine.specs.declared.Ending.TheVariants.{Lf}
 use Rattle.machine.proofs.Running.{running}
-use Rattle.machine.proofs.Answers.{shows, stops, off, html, protocol, images, on, quoted, quoted_on, enter, exit, enter_with, exit_with}
+use Rattle.machine.proofs.Answers.{shows, off, html, on, enter, exit, enter_with}
 
 v1 : T (shows (off Lf) ("[^a]\n\n[^a]: b" ∷ []) (enter 12 ∷ enter 62 ∷ enter 47 ∷ enter 0 ∷ enter 0 ∷ exit 0 0 1 ∷ enter 0 ∷ exit 0 1 2 ∷ exit 0 0 2 ∷ enter 48 ∷ enter 5 ∷ exit 5 2 3 ∷ exit 48 2 3 ∷ enter 0 ∷ enter 0 ∷ exit 0 3 4 ∷ exit 0 3 4 ∷ exit 47 0 4 ∷ exit 62 0 4 ∷ exit 12 0 4 ∷ enter 3 ∷ exit 3 4 5 ∷ enter 4 ∷ exit 4 5 6 ∷ enter 63 ∷ enter 64 ∷ enter 0 ∷ enter 0 ∷ exit 0 6 7 ∷ enter 0 ∷ exit 0 7 8 ∷ enter 65 ∷ enter 5 ∷ exit 5 8 9 ∷ exit 65 8 9 ∷ enter 0 ∷ exit 0 9 10 ∷ exit 0 6 10 ∷ enter 0 ∷ exit 0 10 11 ∷ enter 1 ∷ exit 1 11 12 ∷ exit 64 6 12 ∷ enter 12 ∷ enter 5 ∷ exit 5 12 13 ∷ exit 12 12 13 ∷ exit 63 6 13 ∷ []) ("<p><sup><a href=\"#user-content-fn-a\" id=\"user-content-fnref-a\" data-footnote-ref=\"\" aria-describedby=\"footnote-label\">1</a></sup></p>\n<section data-footnotes=\"\" class=\"footnotes\"><h2 id=\"footnote-labe" ∷ "l\" class=\"sr-only\">Footnotes</h2>\n<ol>\n<li id=\"user-content-fn-a\">\n<p>b <a href=\"#user-content-fnref-a\" data-footnote-backref=\"\" aria-label=\"Back to content\" class=\"data-footnote-backref\">â\u{86}©</a></p>\n" ∷ "</li>\n</ol>\n</section>\n" ∷ []))
 unfolding running

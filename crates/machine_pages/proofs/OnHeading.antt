@@ -1,9 +1,9 @@
 -- Headings of both kinds: pages of the crate markdown 1.0.0. Made by tools/machine_pages. Assumes nothing.
 use mathlib.Core.List.{[], ◌∷◌}
 use lib.Dec.{T}
-use Rattle.machine.specs.declared.Ending.TheVariants.{Lf, Cr, CrLf}
+use Rattle.machine.specs.declared.Ending.TheVariants.{Lf}
 use Rattle.machine.proofs.Running.{running}
-use Rattle.machine.proofs.Answers.{shows, stops, off, html, protocol, images, on, quoted, quoted_on, enter, exit, enter_with, exit_with}
+use Rattle.machine.proofs.Answers.{shows, off, enter, exit}
 
 v1 : T (shows (off Lf) ("# a" ∷ []) (enter 13 ∷ enter 14 ∷ exit 14 0 1 ∷ enter 1 ∷ exit 1 1 2 ∷ enter 15 ∷ enter 5 ∷ exit 5 2 3 ∷ exit 15 2 3 ∷ exit 13 0 3 ∷ []) ("<h1>a</h1>" ∷ []))
 unfolding running

@@ -1,9 +1,9 @@
 -- HTML blocks and tags: pages of the crate markdown 1.0.0. Made by tools/machine_pages. Assumes nothing.
 use mathlib.Core.List.{[], ◌∷◌}
 use lib.Dec.{T}
-use Rattle.machine.specs.declared.Ending.TheVariants.{Lf, Cr, CrLf}
+use Rattle.machine.specs.declared.Ending.TheVariants.{Lf}
 use Rattle.machine.proofs.Running.{running}
-use Rattle.machine.proofs.Answers.{shows, stops, off, html, protocol, images, on, quoted, quoted_on, enter, exit, enter_with, exit_with}
+use Rattle.machine.proofs.Answers.{shows, off, html, on, quoted, enter, exit}
 
 v1 : T (shows (off Lf) ("<div>\na\n</div>\n" ∷ []) (enter 35 ∷ enter 36 ∷ exit 36 0 5 ∷ enter 3 ∷ exit 3 5 6 ∷ enter 36 ∷ exit 36 6 7 ∷ enter 3 ∷ exit 3 7 8 ∷ enter 36 ∷ exit 36 8 14 ∷ exit 35 0 14 ∷ enter 3 ∷ exit 3 14 15 ∷ []) ("&lt;div&gt;\na\n&lt;/div&gt;\n" ∷ []))
 unfolding running

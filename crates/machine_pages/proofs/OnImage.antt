@@ -1,9 +1,9 @@
 -- Images: pages of the crate markdown 1.0.0. Made by tools/machine_pages. Assumes nothing.
 use mathlib.Core.List.{[], ◌∷◌}
 use lib.Dec.{T}
-use Rattle.machine.specs.declared.Ending.TheVariants.{Lf, Cr, CrLf}
+use Rattle.machine.specs.declared.Ending.TheVariants.{Lf}
 use Rattle.machine.proofs.Running.{running}
-use Rattle.machine.proofs.Answers.{shows, stops, off, html, protocol, images, on, quoted, quoted_on, enter, exit, enter_with, exit_with}
+use Rattle.machine.proofs.Answers.{shows, off, html, protocol, images, on, enter, exit}
 
 v1 : T (shows (off Lf) ("![a](b)" ∷ []) (enter 12 ∷ enter 46 ∷ enter 47 ∷ enter 0 ∷ enter 0 ∷ exit 0 0 1 ∷ enter 0 ∷ exit 0 1 2 ∷ exit 0 0 2 ∷ enter 48 ∷ enter 5 ∷ exit 5 2 3 ∷ exit 48 2 3 ∷ enter 0 ∷ enter 0 ∷ exit 0 3 4 ∷ exit 0 3 4 ∷ exit 47 0 4 ∷ enter 49 ∷ enter 0 ∷ exit 0 4 5 ∷ enter 0 ∷ enter 0 ∷ enter 50 ∷ enter 5 ∷ exit 5 5 6 ∷ exit 50 5 6 ∷ exit 0 5 6 ∷ exit 0 5 6 ∷ enter 0 ∷ exit 0 6 7 ∷ exit 49 4 7 ∷ exit 46 0 7 ∷ exit 12 0 7 ∷ []) ("<p><img src=\"b\" alt=\"a\" /></p>" ∷ []))
 unfolding running

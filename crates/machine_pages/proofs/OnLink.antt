@@ -1,9 +1,9 @@
 -- Links with resources: pages of the crate markdown 1.0.0. Made by tools/machine_pages. Assumes nothing.
 use mathlib.Core.List.{[], ◌∷◌}
 use lib.Dec.{T}
-use Rattle.machine.specs.declared.Ending.TheVariants.{Lf, Cr, CrLf}
+use Rattle.machine.specs.declared.Ending.TheVariants.{Lf}
 use Rattle.machine.proofs.Running.{running}
-use Rattle.machine.proofs.Answers.{shows, stops, off, html, protocol, images, on, quoted, quoted_on, enter, exit, enter_with, exit_with}
+use Rattle.machine.proofs.Answers.{shows, off, html, protocol, on, enter, exit}
 
 v1 : T (shows (off Lf) ("[a](b)" ∷ []) (enter 12 ∷ enter 45 ∷ enter 47 ∷ enter 0 ∷ enter 0 ∷ exit 0 0 1 ∷ exit 0 0 1 ∷ enter 48 ∷ enter 5 ∷ exit 5 1 2 ∷ exit 48 1 2 ∷ enter 0 ∷ enter 0 ∷ exit 0 2 3 ∷ exit 0 2 3 ∷ exit 47 0 3 ∷ enter 49 ∷ enter 0 ∷ exit 0 3 4 ∷ enter 0 ∷ enter 0 ∷ enter 50 ∷ enter 5 ∷ exit 5 4 5 ∷ exit 50 4 5 ∷ exit 0 4 5 ∷ exit 0 4 5 ∷ enter 0 ∷ exit 0 5 6 ∷ exit 49 3 6 ∷ exit 45 0 6 ∷ exit 12 0 6 ∷ []) ("<p><a href=\"b\">a</a></p>" ∷ []))
 unfolding running

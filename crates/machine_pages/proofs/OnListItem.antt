@@ -3,7 +3,7 @@ use mathlib.Core.List.{[], ◌∷◌}
 use lib.Dec.{T}
 use Rattle.machine.specs.declared.Ending.TheVariants.{Lf, Cr, CrLf}
 use Rattle.machine.proofs.Running.{running}
-use Rattle.machine.proofs.Answers.{shows, stops, off, html, protocol, images, on, quoted, quoted_on, enter, exit, enter_with, exit_with}
+use Rattle.machine.proofs.Answers.{shows, off, html, on, enter, exit, enter_with, exit_with}
 
 v1 : T (shows (off Lf) ("- a" ∷ []) (enter 22 ∷ enter 23 ∷ enter 24 ∷ enter 25 ∷ exit 25 0 1 ∷ enter 1 ∷ exit 1 1 2 ∷ exit 24 0 2 ∷ enter 12 ∷ enter 5 ∷ exit 5 2 3 ∷ exit 12 2 3 ∷ exit 23 0 3 ∷ exit 22 0 3 ∷ []) ("<ul>\n<li>a</li>\n</ul>" ∷ []))
 unfolding running

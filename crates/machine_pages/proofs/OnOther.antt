@@ -3,7 +3,7 @@ use mathlib.Core.List.{[], ◌∷◌}
 use lib.Dec.{T}
 use Rattle.machine.specs.declared.Ending.TheVariants.{Lf, Cr, CrLf}
 use Rattle.machine.proofs.Running.{running}
-use Rattle.machine.proofs.Answers.{shows, stops, off, html, protocol, images, on, quoted, quoted_on, enter, exit, enter_with, exit_with}
+use Rattle.machine.proofs.Answers.{shows, off, enter, exit, enter_with}
 
 v1 : T (shows (off Lf) ("a" ∷ []) (enter 0 ∷ enter 12 ∷ enter 5 ∷ exit 5 0 1 ∷ exit 12 0 1 ∷ exit 0 0 1 ∷ []) ("<p>a</p>" ∷ []))
 unfolding running

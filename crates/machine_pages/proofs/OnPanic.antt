@@ -1,9 +1,9 @@
 -- Lists that stop: pages of the crate markdown 1.0.0. Made by tools/machine_pages. Assumes nothing.
 use mathlib.Core.List.{[], ◌∷◌}
 use lib.Dec.{T}
-use Rattle.machine.specs.declared.Ending.TheVariants.{Lf, Cr, CrLf}
+use Rattle.machine.specs.declared.Ending.TheVariants.{Lf}
 use Rattle.machine.proofs.Running.{running}
-use Rattle.machine.proofs.Answers.{shows, stops, off, html, protocol, images, on, quoted, quoted_on, enter, exit, enter_with, exit_with}
+use Rattle.machine.proofs.Answers.{stops, off, enter, exit, enter_with}
 
 v1 : T (stops (off Lf) ("a" ∷ []) (enter 7 ∷ enter 11 ∷ exit 11 0 1 ∷ exit 7 0 1 ∷ []))
 unfolding running

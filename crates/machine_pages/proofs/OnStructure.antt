@@ -3,7 +3,7 @@ use mathlib.Core.List.{[], ◌∷◌}
 use lib.Dec.{T}
 use Rattle.machine.specs.declared.Ending.TheVariants.{Lf, Cr, CrLf}
 use Rattle.machine.proofs.Running.{running}
-use Rattle.machine.proofs.Answers.{shows, stops, off, html, protocol, images, on, quoted, quoted_on, enter, exit, enter_with, exit_with}
+use Rattle.machine.proofs.Answers.{shows, off, html, on, enter, exit, enter_with}
 
 v1 : T (shows (off Lf) ("7" ∷ []) (enter 21 ∷ enter 23 ∷ enter 24 ∷ enter 26 ∷ exit 26 0 1 ∷ enter 25 ∷ exit 25 0 0 ∷ exit 24 0 1 ∷ exit 23 0 1 ∷ enter 23 ∷ enter 24 ∷ enter 26 ∷ exit 26 0 1 ∷ enter 25 ∷ exit 25 0 0 ∷ exit 24 0 1 ∷ exit 23 0 1 ∷ exit 21 0 1 ∷ []) ("<ol start=\"7\">\n<li></li>\n<li></li>\n</ol>" ∷ []))
 unfolding running

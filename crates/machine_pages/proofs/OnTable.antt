@@ -1,9 +1,9 @@
 -- Tables: pages of the crate markdown 1.0.0. Made by tools/machine_pages. Assumes nothing.
 use mathlib.Core.List.{[], ◌∷◌}
 use lib.Dec.{T}
-use Rattle.machine.specs.declared.Ending.TheVariants.{Lf, Cr, CrLf}
+use Rattle.machine.specs.declared.Ending.TheVariants.{Lf}
 use Rattle.machine.proofs.Running.{running}
-use Rattle.machine.proofs.Answers.{shows, stops, off, html, protocol, images, on, quoted, quoted_on, enter, exit, enter_with, exit_with}
+use Rattle.machine.proofs.Answers.{shows, off, html, on, enter, exit, enter_with}
 
 v1 : T (shows (off Lf) ("| a |\n| - |" ∷ []) (enter_with 57 1 ∷ enter 58 ∷ enter 60 ∷ enter 61 ∷ enter 0 ∷ exit 0 0 1 ∷ enter 1 ∷ exit 1 1 2 ∷ enter 0 ∷ enter 5 ∷ exit 5 2 3 ∷ exit 0 2 3 ∷ enter 1 ∷ exit 1 3 4 ∷ enter 0 ∷ exit 0 4 5 ∷ exit 61 0 5 ∷ exit 60 0 5 ∷ enter 3 ∷ exit 3 5 6 ∷ enter 0 ∷ enter 0 ∷ enter 0 ∷ exit 0 6 7 ∷ enter 1 ∷ exit 1 7 8 ∷ enter 0 ∷ enter 0 ∷ exit 0 8 9 ∷ exit 0 8 9 ∷ enter 1 ∷ exit 1 9 10 ∷ enter 0 ∷ exit 0 10 11 ∷ exit 0 6 11 ∷ exit 0 6 11 ∷ exit 58 0 11 ∷ exit 57 0 11 ∷ []) ("<table>\n<thead>\n<tr>\n<th>a</th>\n</tr>\n</thead>\n</table>" ∷ []))
 unfolding running

@@ -1,9 +1,9 @@
 -- Thematic breaks: pages of the crate markdown 1.0.0. Made by tools/machine_pages. Assumes nothing.
 use mathlib.Core.List.{[], ◌∷◌}
 use lib.Dec.{T}
-use Rattle.machine.specs.declared.Ending.TheVariants.{Lf, Cr, CrLf}
+use Rattle.machine.specs.declared.Ending.TheVariants.{Lf}
 use Rattle.machine.proofs.Running.{running}
-use Rattle.machine.proofs.Answers.{shows, stops, off, html, protocol, images, on, quoted, quoted_on, enter, exit, enter_with, exit_with}
+use Rattle.machine.proofs.Answers.{shows, off, enter, exit}
 
 v1 : T (shows (off Lf) ("***" ∷ []) (enter 19 ∷ enter 0 ∷ exit 0 0 3 ∷ exit 19 0 3 ∷ []) ("<hr />" ∷ []))
 unfolding running

@@ -1,3 +1,2 @@
 // Pages of the crate markdown, computed by the prover from its events: proofs/ alone matters.
 #![tactic(auto)]
-

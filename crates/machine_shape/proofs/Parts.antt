@@ -10,21 +10,20 @@ use lib.ListN.{length}
 use Rattle.machine.specs.Outcome.{go, ◌>>=◌}
 use Rattle.machine.specs.State.{State, own, Media}
 use Rattle.machine.specs.Set.{set_captures, set_media, set_flag, alt, set_destination}
-use Rattle.machine.specs.Buffers.{push}
 use Rattle.machine.specs.Turn.{Turn, span_of}
 use Rattle.machine.specs.Totals.{size}
 use Rattle.machine.specs.Media as M
 use Rattle.machine.specs.Media.{new_media, split_media, newest_media, on_newest, Part, with_part, with_id, any_image, leave_alt, label_of, destination_of, seek, part_text, own_of}
 use Rattle.machine.specs.Command.{exec}
-use Rattle.machine.specs.Words.{open_media, close_media, store, empty_destination, identify, leave_image, seek_definition, show}
+use Rattle.machine.specs.Words.{open_media, close_media, store, empty_destination, identify, leave_image, seek_definition}
 use Rattle.machine_bounded.specs.Within.{of_newest, parts_from, newest_is_bare}
-use Rattle.machine_shape.specs.Facts.{is_set, media_facts, of_top, points_to, defined?}
+use Rattle.machine_shape.specs.Facts.{media_facts, of_top, points_to, defined?}
 use Rattle.machine_shape.specs.Shape.{Say, over, changed, Shape, Rel, idle}
 use Rattle.machine_shape.specs.Acts.{with_captures, with_media, turns, newest, popped, down1}
-use Rattle.machine_shape.specs.Right.{Goes, Right}
+use Rattle.machine_shape.specs.Right.{Right}
 use Rattle.machine_shape.proofs.Says.{passed, mean-after}
-use Rattle.machine_shape.proofs.Rel.{media-same, rel-idle}
-use Rattle.machine_shape.proofs.Done.{Done, done-bind, done-take, done-newest, rel-flags, done-push, done-set}
+use Rattle.machine_shape.proofs.Rel.{media-same}
+use Rattle.machine_shape.proofs.Done.{Done, done-bind, done-take, done-newest, rel-flags, done-set}
 use Rattle.machine_shape.proofs.Media.{media-open, media-gone, label-set, destination-set, title-set, destination-empty, label_id-set, reference_id-set, destination-found, leads}
 use Rattle.machine_shape.proofs.Writes.{taken, with-order}
 

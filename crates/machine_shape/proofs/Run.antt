@@ -23,7 +23,7 @@ use Rattle.machine_shape.specs.Fits.{goes, good}
 use Rattle.machine_shape.specs.Kinds.{contract_of, begun, row_of, fits}
 use Rattle.machine_shape.specs.Right.{Few, Right}
 use Rattle.machine_shape.specs.Pass.{turn_at}
-use Rattle.machine_shape.proofs.Rel.{rel-after, rel-less, rel-begun, rel-idle, low}
+use Rattle.machine_shape.proofs.Rel.{rel-after, rel-less, rel-begun, rel-idle}
 use Rattle.machine_shape.proofs.Sound.{sound}
 use Rattle.machine_shape.proofs.Test.{kind_fits}
 use Rattle.machine_shape.proofs.Walk.{Walk, takes-walk}

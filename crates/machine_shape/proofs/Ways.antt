@@ -6,7 +6,6 @@ use mathlib.Core.Option.{Option, none, some}
 use Prim.Native.Nat.{ℕ}
 use lib.Dec.{T, eqb, leb, ltb}
 use lib.ListN.{length, get_or}
-use Rattle.event.specs.declared.Event.{Event}
 use Rattle.event.specs.Event as Event
 use Rattle.event.specs.Event.{named}
 use Rattle.machine.specs.Outcome.{Outcome, go, ◌>>=◌, need}
