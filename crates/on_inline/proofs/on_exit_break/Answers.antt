@@ -1,0 +1,8 @@
+-- The tag alone.
+use Rattle.machine.specs.OnInline.{on_exit_break}
+use Rattle.state_context.proofs.Commands.{tag_of}
+use Rattle.on_inline.proofs.on_exit_break.Goals as goal
+
+pub returns : goal.returns
+unfolding on_exit_break
+returns c = search tag_of
