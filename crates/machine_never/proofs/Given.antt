@@ -7,7 +7,7 @@ use Rattle.machine.specs.Test.{Test, is, is_tight, is_in_container, is_image, ha
 use Rattle.machine.specs.Command.{Command, nothing, step, ◌▸◌, whether, missing_cells, Step, write, capture, setext, mode, wait, column, medium, retain, Source, given, made, rank, start, alignment, part, Capture, buffer, drop, resume, resume_code, Wait, keep_rank, forget_rank, seen_data, fences, count_fence, marker, reference, first, Medium, open_media, close_media, store, empty_destination, identify, seek_definition, Keep, keep_definition, footnote_label, keep_footnote, call}
 use Rattle.machine_shape.specs.Right.{Asks, Told, Captured, Awaited, Known, Kept, RightStep, Right}
 use Rattle.machine_shape.proofs.Says.{both}
-use Rattle.machine_never.specs.Needs as goal
+use Rattle.machine_never.specs.Needs as needs
 use Rattle.machine_never.specs.Needs.{Need, need_written, need_captured, need_awaited, need_known, need_kept, need_of, ask_of, Fact, simple}
 
 -- ---- what is given is enough
@@ -28,19 +28,19 @@ module _ (t : Turn) (enough : Need → Bool) (facts : (n : Need) → T (enough n
   asked is_past_columns g = tt
   asked is_ordered g = tt
   asked is_loose g = tt
-  asked is_underlined_by_dashes g = facts goal.begins g
+  asked is_underlined_by_dashes g = facts needs.begins g
   asked is_last g = tt
   asked is_html_allowed g = tt
-  asked is_behind_fence g = facts goal.follows g
+  asked is_behind_fence g = facts needs.follows g
   asked is_behind_definition g = tt
-  asked is_tight_paragraph g = facts goal.looks g
-  asked is_empty_item g = facts goal.looks g
+  asked is_tight_paragraph g = facts needs.looks g
+  asked is_empty_item g = facts needs.looks g
 
   told : (x : Source) → T (enough (need_written x)) → Told x t
   told (given x) g = tt
-  told (made x) g = (facts goal.slices g).0
+  told (made x) g = (facts needs.slices g).0
   told rank g = tt
-  told start g = facts goal.starts g
+  told start g = facts needs.starts g
   told alignment g = tt
   told (part p) g = tt
 
@@ -48,16 +48,16 @@ module _ (t : Turn) (enough : Need → Bool) (facts : (n : Need) → T (enough n
   captured buffer g s = tt
   captured drop g s = tt
   captured (resume before after) g s = tt
-  captured resume_code g s = absurd (facts goal.more g)
+  captured resume_code g s = absurd (facts needs.more g)
 
   awaited : (x : Wait) → T (enough (need_awaited x)) → (s : State) → Awaited x t s
-  awaited keep_rank g s = (facts goal.slices g).1
+  awaited keep_rank g s = (facts needs.slices g).1
   awaited forget_rank g s = tt
   awaited (seen_data v) g s = tt
   awaited (fences v) g s = tt
   awaited count_fence g s = tt
   awaited (marker m) g s = tt
-  awaited reference g s = absurd (facts goal.more g)
+  awaited reference g s = absurd (facts needs.more g)
   awaited (first v) g s = tt
 
   known : (x : Medium) → T (enough (need_known x)) → (s : State) → Known x t s
@@ -66,13 +66,13 @@ module _ (t : Turn) (enough : Need → Bool) (facts : (n : Need) → T (enough n
   known (store p) g s = tt
   known empty_destination g s = tt
   known (identify id) g s = tt
-  known seek_definition g s = absurd (facts goal.more g)
+  known seek_definition g s = absurd (facts needs.more g)
 
   kept : (x : Keep) → T (enough (need_kept x)) → (s : State) → Kept x t s
-  kept keep_definition g s = absurd (facts goal.more g)
+  kept keep_definition g s = absurd (facts needs.more g)
   kept footnote_label g s = tt
-  kept keep_footnote g s = absurd (facts goal.more g)
-  kept call g s = absurd (facts goal.more g)
+  kept keep_footnote g s = absurd (facts needs.more g)
+  kept call g s = absurd (facts needs.more g)
 
   right-step : (x : Step) → T (enough (need_of x)) → (s : State) → RightStep x t s
   unfolding need_of

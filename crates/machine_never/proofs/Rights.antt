@@ -33,7 +33,7 @@ use Rattle.machine_clean.proofs.Within.{within-exec}
 use Rattle.machine_shape.specs.Kinds.{row_of, below}
 use Rattle.machine_shape.specs.Right.{Asks, Right, Sought, Defines, Notes, Calls}
 use Rattle.machine_shape.proofs.Test.{computed}
-use Rattle.machine_never.specs.Needs as goal
+use Rattle.machine_never.specs.Needs as needs
 use Rattle.machine_never.specs.Needs.{Need, need_of, ask_of, Fact, simple, slice?}
 use Rattle.machine_never.proofs.Came.{via-newest, via-take}
 use Rattle.machine_never.proofs.Given.{given-right}
@@ -41,7 +41,7 @@ use Rattle.check_nesting.specs.Grammar.{name_count}
 
 -- ---- by names
 
-all-enters : T (below name_count (λ n. simple goal.none (row_of n).enter))
+all-enters : T (below name_count (λ n. simple needs.none (row_of n).enter))
 unfolding simple need_of ask_of rows on_exit_data on_exit_character_reference_marker on_exit_character_reference_marker_numeric on_exit_character_reference_marker_hexadecimal on_exit_character_reference_value on_exit_line_ending on_exit_blank_line_ending on_enter_emphasis on_exit_emphasis on_enter_strong on_exit_strong on_exit_break on_enter_raw_text on_exit_raw_text on_enter_html_text on_enter_html_flow on_exit_html on_exit_html_data generate_autolink on_exit_autolink_email on_exit_autolink_protocol on_enter_paragraph on_exit_paragraph on_enter_block_quote on_exit_block_quote on_exit_thematic_break on_exit_heading_atx_sequence on_exit_heading_atx_text on_exit_heading_atx on_exit_heading_setext_text setext_rank on_exit_heading_setext_underline_sequence on_enter_code_indented on_enter_raw_flow on_exit_raw_flow_fence on_exit_raw_flow_fence_info on_exit_raw_flow_chunk on_exit_raw_flow on_enter_list on_exit_list on_enter_list_item_marker on_exit_list_item_value on_exit_list_item on_enter_gfm_table on_exit_gfm_table on_enter_gfm_table_head on_exit_gfm_table_head on_enter_gfm_table_body on_exit_gfm_table_body on_enter_gfm_table_cell on_exit_gfm_table_cell on_enter_gfm_table_row on_exit_gfm_table_row on_enter_buffer on_exit_drop on_enter_link on_enter_image on_exit_label on_exit_label_text on_exit_reference_string on_enter_resource on_enter_resource_destination_string on_exit_resource_destination_string on_exit_resource_title_string on_exit_media on_enter_definition on_exit_definition_label_string on_enter_definition_destination_string on_exit_definition_destination_string on_exit_definition_title_string on_exit_definition on_enter_gfm_footnote_call on_exit_gfm_footnote_call on_enter_gfm_footnote_definition on_exit_gfm_footnote_definition_label_string on_exit_gfm_footnote_definition_prefix on_exit_gfm_footnote_definition
 all-enters = tt
 
@@ -53,29 +53,29 @@ all-exits : T (below name_count (λ n. asking n || simple slice? (row_of n).exit
 unfolding simple need_of ask_of rows on_exit_data on_exit_character_reference_marker on_exit_character_reference_marker_numeric on_exit_character_reference_marker_hexadecimal on_exit_character_reference_value on_exit_line_ending on_exit_blank_line_ending on_enter_emphasis on_exit_emphasis on_enter_strong on_exit_strong on_exit_break on_enter_raw_text on_exit_raw_text on_enter_html_text on_enter_html_flow on_exit_html on_exit_html_data generate_autolink on_exit_autolink_email on_exit_autolink_protocol on_enter_paragraph on_exit_paragraph on_enter_block_quote on_exit_block_quote on_exit_thematic_break on_exit_heading_atx_sequence on_exit_heading_atx_text on_exit_heading_atx on_exit_heading_setext_text setext_rank on_exit_heading_setext_underline_sequence on_enter_code_indented on_enter_raw_flow on_exit_raw_flow_fence on_exit_raw_flow_fence_info on_exit_raw_flow_chunk on_exit_raw_flow on_enter_list on_exit_list on_enter_list_item_marker on_exit_list_item_value on_exit_list_item on_enter_gfm_table on_exit_gfm_table on_enter_gfm_table_head on_exit_gfm_table_head on_enter_gfm_table_body on_exit_gfm_table_body on_enter_gfm_table_cell on_exit_gfm_table_cell on_enter_gfm_table_row on_exit_gfm_table_row on_enter_buffer on_exit_drop on_enter_link on_enter_image on_exit_label on_exit_label_text on_exit_reference_string on_enter_resource on_enter_resource_destination_string on_exit_resource_destination_string on_exit_resource_title_string on_exit_media on_enter_definition on_exit_definition_label_string on_enter_definition_destination_string on_exit_definition_destination_string on_exit_definition_title_string on_exit_definition on_enter_gfm_footnote_call on_exit_gfm_footnote_call on_enter_gfm_footnote_definition on_exit_gfm_footnote_definition_label_string on_exit_gfm_footnote_definition_prefix on_exit_gfm_footnote_definition
 all-exits = tt
 
-nothing-given : (t : Turn) (k : Need) → T (goal.none k) → Fact k t
-nothing-given t goal.free g = tt
-nothing-given t goal.slices g = absurd g
-nothing-given t goal.starts g = absurd g
-nothing-given t goal.begins g = absurd g
-nothing-given t goal.follows g = absurd g
-nothing-given t goal.looks g = absurd g
-nothing-given t goal.more g = absurd g
+nothing-given : (t : Turn) (k : Need) → T (needs.none k) → Fact k t
+nothing-given t needs.free g = tt
+nothing-given t needs.slices g = absurd g
+nothing-given t needs.starts g = absurd g
+nothing-given t needs.begins g = absurd g
+nothing-given t needs.follows g = absurd g
+nothing-given t needs.looks g = absurd g
+nothing-given t needs.more g = absurd g
 
 pub right-enter : (t : Turn) (n : ℕ) → n < name_count → (s : State) → Right (row_of n).enter t s
-right-enter t n h s = given-right t goal.none (λ k g. nothing-given t k g) (row_of n).enter (computed (λ n. simple goal.none (row_of n).enter) name_count all-enters n h) s
+right-enter t n h s = given-right t needs.none (λ k g. nothing-given t k g) (row_of n).enter (computed (λ n. simple needs.none (row_of n).enter) name_count all-enters n h) s
 
-pub right-exit : (t : Turn) (n : ℕ) → n < name_count → asking n ≡ false → Fact goal.slices t → (s : State) → Right (row_of n).exit t s
+pub right-exit : (t : Turn) (n : ℕ) → n < name_count → asking n ≡ false → Fact needs.slices t → (s : State) → Right (row_of n).exit t s
 right-exit t n h a own s = given-right t slice? (λ k g. only k g) (row_of n).exit (at (asking n) a (computed (λ n. asking n || simple slice? (row_of n).exit) name_count all-exits n h)) s
   where
     only : (k : Need) → T (slice? k) → Fact k t
-    only goal.free g = tt
-    only goal.slices g = own
-    only goal.starts g = absurd g
-    only goal.begins g = absurd g
-    only goal.follows g = absurd g
-    only goal.looks g = absurd g
-    only goal.more g = absurd g
+    only needs.free g = tt
+    only needs.slices g = own
+    only needs.starts g = absurd g
+    only needs.begins g = absurd g
+    only needs.follows g = absurd g
+    only needs.looks g = absurd g
+    only needs.more g = absurd g
 
     at : (x : Bool) → x ≡ false → T (x || simple slice? (row_of n).exit) → T (simple slice? (row_of n).exit)
     at true e g = let z : ◌≡◌ {A = ℕ} 0 1 = cc in absurd (omega arith)
@@ -92,28 +92,28 @@ after_seek =
     ▸ unless is_image (show label ▸ tag "</a>")
     ▸ close_media
 
-after-seek : T (simple goal.none after_seek)
+after-seek : T (simple needs.none after_seek)
 unfolding simple need_of ask_of
 after-seek = tt
 
 module _ (t : Turn) (s : State) where
-  pub right-18 : Fact goal.begins t → Right (row_of 18).exit t s
+  pub right-18 : Fact needs.begins t → Right (row_of 18).exit t s
   unfolding Right Asks rows on_exit_heading_setext_underline_sequence setext_rank
   right-18 f = (tt, λ u e. (tt, λ u e. ((f, tt, tt), λ u e. (tt, λ u e. (tt, λ u e. (tt, λ u e. ((f, tt, tt), λ u e. tt)))))))
 
-  pub right-23 : Fact goal.looks t → Right (row_of 23).exit t s
+  pub right-23 : Fact needs.looks t → Right (row_of 23).exit t s
   unfolding Right Asks rows on_exit_list_item
   right-23 f = (tt, λ u e. ((f, tt, (f, tt, tt)), λ u e. tt))
 
-  pub right-26 : Fact goal.starts t → Right (row_of 26).exit t s
+  pub right-26 : Fact needs.starts t → Right (row_of 26).exit t s
   unfolding Right Asks rows on_exit_list_item_value
   right-26 f = (tt, f, tt)
 
-  pub right-27 : Fact goal.follows t → Right (row_of 27).exit t s
+  pub right-27 : Fact needs.follows t → Right (row_of 27).exit t s
   unfolding Right Asks rows on_exit_raw_flow
   right-27 f = ((tt, (tt, (f, tt, tt), tt), tt), λ u e. ((tt, tt, tt), λ u e. (tt, λ u e. (tt, λ u e. ((tt, tt, tt), λ u e. (tt, λ u e. tt))))))
 
-  pub right-28 : Fact goal.follows t → Right (row_of 28).exit t s
+  pub right-28 : Fact needs.follows t → Right (row_of 28).exit t s
   unfolding Right Asks rows on_exit_raw_flow
   right-28 f = ((tt, (tt, (f, tt, tt), tt), tt), λ u e. ((tt, tt, tt), λ u e. (tt, λ u e. (tt, λ u e. ((tt, tt, tt), λ u e. (tt, λ u e. tt))))))
 
@@ -132,7 +132,7 @@ module _ (t : Turn) (s : State) where
 
   sought-right : Sought t s → Right (leave_image ▸ seek_definition ▸ after_seek) t s
   unfolding Right
-  sought-right r = (tt, λ u e. (same-media u e r, λ w i. given-right t goal.none (λ k g. nothing-given t k g) after_seek after-seek w))
+  sought-right r = (tt, λ u e. (same-media u e r, λ w i. given-right t needs.none (λ k g. nothing-given t k g) after_seek after-seek w))
 
   pub right-45 : Sought t s → Right (row_of 45).exit t s
   unfolding rows on_exit_media

@@ -23,9 +23,9 @@ use Rattle.machine.specs.Turn.{span_of}
 use Rattle.machine_never.proofs.Tops.{child-tops, grand-tops, ids-tops, kinds-tops, absent-in, takes_one, takes-opt, takes_none, only, one_of_two}
 use Rattle.machine_never.proofs.Parts.{no-tops, one-top, ran, part-47, part-call, part-49, part-52, part-54, part-55, part-56}
 
-or_nothing_lem : (x : Part) → or_else x Nothing ≡ x
-or_nothing_lem (Slice from to) = refl
-or_nothing_lem Nothing = refl
+or-nothing : (x : Part) → or_else x Nothing ≡ x
+or-nothing (Slice from to) = refl
+or-nothing Nothing = refl
 
 is-named : (k n : ℕ) (x : Top) (b : Bool) → IsKind k x → eqb (name_of k) n ≡ b → eqb x.enter.name n ≡ b
 is-named k n x b h e = rw h.named e
@@ -48,17 +48,17 @@ known label reference resource = ids3 (or_that label none) (or_that reference no
 
 module _ (x : Top) (h : IsKind 47 x) (is : List Ids) where
   alone : ids_tops (x ∷ []) (bare ∷ is) ≡ known (grand_top 48 (x ∷ [])) (child_top 52 (x ∷ [])) (child_top 49 (x ∷ [])) ∷ is
-  alone = part-47 x bare is h ∙ rw (or_nothing_lem (child_of 48 x.inside), is-named 47 52 x false h refl, is-named 47 49 x false h refl) refl
+  alone = part-47 x bare is h ∙ rw (or-nothing (child_of 48 x.inside), is-named 47 52 x false h refl, is-named 47 49 x false h refl) refl
 
   with-resource : (y : Top) → IsKind 49 y → ids_tops (x ∷ y ∷ []) (bare ∷ is) ≡ known (grand_top 48 (x ∷ y ∷ [])) (child_top 52 (x ∷ y ∷ [])) (child_top 49 (x ∷ y ∷ [])) ∷ is
   with-resource y k =
       ap (ran y) (part-47 x bare is h) ∙ part-49 y (ids3 (or_that (child_of 48 x.inside) none) none false) is k
-      ∙ rw (no-48-in-49 y k, or_nothing_lem (child_of 48 x.inside), is-named 47 52 x false h refl, is-named 47 49 x false h refl, is-named 49 52 y false k refl, is-named 49 49 y true k refl) refl
+      ∙ rw (no-48-in-49 y k, or-nothing (child_of 48 x.inside), is-named 47 52 x false h refl, is-named 47 49 x false h refl, is-named 49 52 y false k refl, is-named 49 49 y true k refl) refl
 
   with-reference : (y : Top) → IsKind 52 y → ids_tops (x ∷ y ∷ []) (bare ∷ is) ≡ known (grand_top 48 (x ∷ y ∷ [])) (child_top 52 (x ∷ y ∷ [])) (child_top 49 (x ∷ y ∷ [])) ∷ is
   with-reference y k =
       ap (ran y) (part-47 x bare is h) ∙ part-52 y (ids3 (or_that (child_of 48 x.inside) none) none false) is k
-      ∙ rw (no-48-in-52 y k, or_nothing_lem (child_of 48 x.inside), is-named 47 52 x false h refl, is-named 47 49 x false h refl, is-named 52 52 y true k refl, is-named 52 49 y false k refl) refl
+      ∙ rw (no-48-in-52 y k, or-nothing (child_of 48 x.inside), is-named 47 52 x false h refl, is-named 47 49 x false h refl, is-named 52 52 y true k refl, is-named 52 49 y false k refl) refl
 
 media-tops : (ks : List ℕ) (xs : List Top) → Takes (holds 45) ks → AreKinds ks xs → (is : List Ids) → ids_tops xs (bare ∷ is) ≡ known (grand_top 48 xs) (child_top 52 xs) (child_top 49 xs) ∷ is
 unfolding holds rules
@@ -99,7 +99,7 @@ call-tops ks xs w h is =
     rw f (at x.0 x.3)
   where
     at : (x : Top) → IsKind call_label x → (ids_tops (x ∷ []) (bare ∷ is) ≡ known (grand_top 48 (x ∷ [])) Nothing Nothing ∷ is) × (child_top 52 (x ∷ []) ≡ Nothing) × (child_top 49 (x ∷ []) ≡ Nothing)
-    at x h = (part-call x bare is h ∙ rw (or_nothing_lem (child_of 48 x.inside)) refl, rw (is-named call_label 52 x false h refl) refl, rw (is-named call_label 49 x false h refl) refl)
+    at x h = (part-call x bare is h ∙ rw (or-nothing (child_of 48 x.inside)) refl, rw (is-named call_label 52 x false h refl) refl, rw (is-named call_label 49 x false h refl) refl)
 
 pub call-ids : (f : Forest) {ks : List ℕ} → Kinds ks f → Takes (holds 62) ks → (is : List Ids) → ids_over f (bare ∷ is) ≡ known (grandchild_of 48 f) Nothing Nothing ∷ is
 call-ids f {ks} c w is = ids-tops c (bare ∷ is) ∙ rw (grand-tops 48 f) (call-tops ks (tops f) w (kinds-tops c) is).0

@@ -25,7 +25,7 @@ use Rattle.machine.specs.Text.{start_text, start_of}
 use Rattle.machine_shape.specs.Pass.{behind, turn_at}
 use Rattle.machine_shape.proofs.Says.{both, passed}
 use Rattle.machine_never.specs.Values.{text_of}
-use Rattle.machine_never.specs.Needs as goal
+use Rattle.machine_never.specs.Needs as needs
 use Rattle.machine_never.specs.Needs.{Fact}
 use Rattle.machine_never.specs.Here.{Here}
 use Rattle.machine_never.proofs.Here.{is_at, slices-there, own-slice, own-str}
@@ -81,15 +81,15 @@ module _ (text events : List ℕ) (meets : Meets text events) (o : Options) (p :
   exits : (n : ℕ) → e.name ≡ n → Exits n (event_at events p)
   exits n i = rw (is_at text events meets p before e es h) (x, i)
 
-  pub fact-slices : Fact goal.slices (turn_at text o p before e es)
+  pub fact-slices : Fact needs.slices (turn_at text o p before e es)
   fact-slices = ((text_of text (span_of e), own-str text events meets p before e es h x), (text_of text (span_of e), own-slice text events meets p before e es h x))
 
-  pub fact-starts : e.name ≡ 26 → Fact goal.starts (turn_at text o p before e es)
+  pub fact-starts : e.name ≡ 26 → Fact needs.starts (turn_at text o p before e es)
   fact-starts i =
       let s : is_item_value (text_of text (span_of e)) ≡ true = rw (is_at text events meets p before e es h) at ((slices-there text events meets p before e es h).value (exits 26 i)) in
       (start_text (from_digits 10 (text_of text (span_of e))), ap (λ (q : Outcome (List ℕ)). q >>= start_of) (own-str text events meets p before e es h x) ∙ value-starts (text_of text (span_of e)) s)
 
-  pub fact-begins : e.name ≡ 18 → Fact goal.begins (turn_at text o p before e es)
+  pub fact-begins : e.name ≡ 18 → Fact needs.begins (turn_at text o p before e es)
   fact-begins i =
       let s : is_underline (text_of text (span_of e)) ≡ true = rw (is_at text events meets p before e es h) at ((slices-there text events meets p before e es h).underline (exits 18 i)) in
       first_byte (e.to.0 - e.from.0) e.from.0 text s

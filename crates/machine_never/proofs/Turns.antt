@@ -23,7 +23,7 @@ use Rattle.machine_shape.specs.Kinds.{row_of}
 use Rattle.machine_shape.specs.Right.{Right, Sought, Defines, Notes, Calls}
 use Rattle.machine_shape.specs.Pass.{turn_at}
 use Rattle.machine_shape.proofs.Run.{decide}
-use Rattle.machine_never.specs.Needs as goal
+use Rattle.machine_never.specs.Needs as needs
 use Rattle.machine_never.specs.Needs.{Fact}
 use Rattle.machine_never.proofs.Rights.{right-enter, right-exit, right-11, right-18, right-23, right-26, right-27, right-28, right-33, right-45, right-46, right-53, right-62, right-63}
 use Rattle.machine_never.proofs.Static.{fact-slices, fact-starts, fact-begins, fact-refers}
@@ -41,8 +41,8 @@ code-right t s k c cs e = let v = first s.captures k.captures c cs e in (code_of
 
 -- what an exit may ask beside
 pub record Answers (t : Turn) (s : State) : Type 0 where
-  pub looks : t.event.name ≡ 23 → Fact goal.looks t
-  pub follows : Fact goal.follows t
+  pub looks : t.event.name ≡ 23 → Fact needs.looks t
+  pub follows : Fact needs.follows t
   pub link : t.event.name ≡ 45 → Sought t s
   pub image : t.event.name ≡ 46 → Sought t s
   pub defines : t.event.name ≡ 53 → Defines t s

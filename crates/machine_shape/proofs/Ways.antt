@@ -74,16 +74,16 @@ module _ (t : Turn) (x : Shape) (f g : Shape → Bool) (b s : State) (h : Rel x 
     is-past : is_past s.table ≡ Past
     is-past = ap (λ (o : Option (List ℕ)). elim o [ none ↦ false | some aligns ↦ leb (length aligns) s.table.column ]) e
 
-    is_within_lem : is_within s.table ≡ not Past
-    is_within_lem = ap (λ (o : Option (List ℕ)). elim o [ none ↦ false | some aligns ↦ not (leb (length aligns) s.table.column) ]) e
+    is-within : is_within s.table ≡ not Past
+    is-within = ap (λ (o : Option (List ℕ)). elim o [ none ↦ false | some aligns ↦ not (leb (length aligns) s.table.column) ]) e
 
     cell : (r p q : Bool) → Past ≡ r → waits_for 8 x ≡ p → waits_for 9 x ≡ q → T (elim p [ true ↦ f x | false ↦ elim q [ true ↦ g x | false ↦ f (known 8 x) && g (known 9 x) ] ]) → Way (go r) f g b s
     cell true true q e i j w = record { answer = true; goes = refl; shape = x; rel = h; fine = w }
-    cell true false true e i j w = let z : T (is_within s.table) = waits 9 (rw j tt) in absurd (rw (is_within_lem, e) at z)
+    cell true false true e i j w = let z : T (is_within s.table) = waits 9 (rw j tt) in absurd (rw (is-within, e) at z)
     cell true false false e i j w = record { answer = true; goes = refl; shape = known 8 x; rel = rel-known 8 (rw (is-past, e) tt); fine = (both (f (known 8 x)) (g (known 9 x)) w).0 }
     cell false true q e i j w = let z : T (is_past s.table) = waits 8 (rw i tt) in absurd (rw (is-past, e) at z)
     cell false false true e i j w = record { answer = false; goes = refl; shape = x; rel = h; fine = w }
-    cell false false false e i j w = record { answer = false; goes = refl; shape = known 9 x; rel = rel-known 9 (rw (is_within_lem, e) tt); fine = (both (f (known 8 x)) (g (known 9 x)) w).1 }
+    cell false false false e i j w = record { answer = false; goes = refl; shape = known 9 x; rel = rel-known 9 (rw (is-within, e) tt); fine = (both (f (known 8 x)) (g (known 9 x)) w).1 }
 
   columns : (o : Option (List ℕ)) → s.table.aligns ≡ o → T (is_set o) → T (elim (waits_for 8 x) [ true ↦ f x | false ↦ elim (waits_for 9 x) [ true ↦ g x | false ↦ f (known 8 x) && g (known 9 x) ] ])
       → Way (need o >>= λ aligns. go (leb (length aligns) s.table.column)) f g b s
