@@ -6,79 +6,79 @@
 ghost use Rattle.std.specs.Prelude.{◌<◌};
 
 use character_reference::{Marker, Names, Value};
-use libc::STDOUT_FILENO;
+use std::alloc::{AllocError, Global};
+use std::io;
+use std::io::Read;
 
-const ITSELF: u8 = 0;
+// The most bytes of the input that it takes.
+const MOST_LINES: u64 = 65536;
 
-const REPLACED: u8 = 1;
+// What a number gives.
+#[derive(Clone, Copy, PartialEq, Eq)]
+enum Kind {
+    Itself,
+    Replaced,
+    Other,
+}
 
-const OTHER: u8 = 2;
-
-fn kind_of(n: u32, v: Value) -> u8 {
+fn kind_of(n: u32, v: Value) -> Kind {
     let Value::Code(c) = v else {
-        return OTHER;
+        return Kind::Other;
     };
     if c == n {
-        return ITSELF;
+        return Kind::Itself;
     }
     if c == 0xFFFD {
-        return REPLACED;
+        return Kind::Replaced;
     }
-    OTHER
+    Kind::Other
 }
 
-fn by_hexadecimal(n: u32) -> u8 {
-    let mut digits = [0u8; 16];
-    let k = io::hex(n as u64, 1, &mut digits);
-    kind_of(
-        n,
-        character_reference::value_of(Names::Html5, Marker::Hexadecimal, &digits[..k]),
-    )
+fn by_hexadecimal(digits: &mut String, n: u32) -> Result<Kind, AllocError> {
+    digits.clear();
+    write!(digits, "{n:x}")?;
+    let value = character_reference::value_of(Names::Html5, Marker::Hexadecimal, digits.as_bytes());
+    Ok(kind_of(n, value))
 }
 
-fn by_decimal(n: u32) -> u8 {
-    let mut digits = [0u8; 20];
-    let k = io::decimal(n as u64, &mut digits);
-    kind_of(
-        n,
-        character_reference::value_of(Names::Html5, Marker::Decimal, &digits[..k]),
-    )
+fn by_decimal(digits: &mut String, n: u32) -> Result<Kind, AllocError> {
+    digits.clear();
+    write!(digits, "{n}")?;
+    let value = character_reference::value_of(Names::Html5, Marker::Decimal, digits.as_bytes());
+    Ok(kind_of(n, value))
 }
 
-fn by(base: u32, n: u32) -> u8 {
+// The number's digits are written into the text that is lent.
+fn by(digits: &mut String, base: u32, n: u32) -> Result<Kind, AllocError> {
     if base == 16 {
-        return by_hexadecimal(n);
+        return by_hexadecimal(digits, n);
     }
-    by_decimal(n)
+    by_decimal(digits, n)
 }
 
-fn write_kind(kind: u8) -> bool {
-    if kind == ITSELF {
-        return io::write_all(STDOUT_FILENO, b" itself\n");
+fn word_of(kind: Kind) -> &'static str {
+    match kind {
+        Kind::Itself => "itself",
+        Kind::Replaced => "replaced",
+        Kind::Other => "other",
     }
-    if kind == REPLACED {
-        return io::write_all(STDOUT_FILENO, b" replaced\n");
-    }
-    io::write_all(STDOUT_FILENO, b" other\n")
 }
 
-fn write_run(from: u32, to: u32, kind: u8) {
-    io::print_decimal(STDOUT_FILENO, from as u64);
-    io::write_all(STDOUT_FILENO, b" ");
-    io::print_decimal(STDOUT_FILENO, to as u64);
-    write_kind(kind);
+fn write_run(rt: &impl Print, from: u32, to: u32, kind: Kind) -> io::Result<()> {
+    println!(rt; "{from} {to} {}", word_of(kind))
 }
 
-fn write_runs(base: u32, end: u32)
+fn write_runs(rt: &impl Print, alloc: Global, base: u32, end: u32) -> io::Result<()>
     requires { 0 < end }
 {
+    let mut digits = String::new(alloc);
     let mut from: u32 = 0;
-    let mut kind = by(base, 0);
+    let mut kind = by(&mut digits, base, 0)?;
     let mut n: u32 = 1;
     while n < end {
-        let next = by(base, n);
+        let next = by(&mut digits, base, n)?;
         if next != kind {
-            write_run(from, n - 1, kind);
+            write_run(rt, from, n - 1, kind)?;
             from = n;
             kind = next;
             n += 1;
@@ -86,45 +86,52 @@ fn write_runs(base: u32, end: u32)
         }
         n += 1;
     }
-    write_run(from, end - 1, kind);
+    write_run(rt, from, end - 1, kind)
 }
 
-fn write_code(v: Value) {
-    io::write_all(STDOUT_FILENO, b" ");
+fn write_code(rt: &impl Print, v: Value) -> io::Result<()> {
     match v {
-        Value::Code(c) => io::print_hex(STDOUT_FILENO, c as u64, 1),
-        Value::Broken => io::write_all(STDOUT_FILENO, b"none"),
-    };
+        Value::Code(c) => print!(rt; " {c:x}"),
+        Value::Broken => print!(rt; " none"),
+    }
 }
 
-fn write_name(s: &[u8]) {
-    io::write_all(STDOUT_FILENO, b"&");
-    io::write_all(STDOUT_FILENO, s);
-    io::write_all(STDOUT_FILENO, b";");
-    write_code(character_reference::value_of(Names::Html4, Marker::Named, s));
-    write_code(character_reference::value_of(Names::Html5, Marker::Named, s));
-    io::write_all(STDOUT_FILENO, b"\n");
+fn write_name(rt: &impl Print, s: &[u8]) -> io::Result<()> {
+    print!(rt; "&")?;
+    rt.write_all(s)?;
+    print!(rt; ";")?;
+    write_code(
+        rt,
+        character_reference::value_of(Names::Html4, Marker::Named, s),
+    )?;
+    write_code(
+        rt,
+        character_reference::value_of(Names::Html5, Marker::Named, s),
+    )?;
+    println!(rt;)
 }
 
 // Each line.
-fn write_names(lines: &[u8]) {
+fn write_names(rt: &impl Print, lines: &[u8]) -> io::Result<()> {
     let mut from: usize = 0;
     let mut i: usize = 0;
     while i < lines.len() {
         if lines[i] == b'\n' {
-            write_name(&lines[from..i]);
+            write_name(rt, &lines[from..i])?;
             from = i + 1;
             i += 1;
             continue;
         }
         i += 1;
     }
+    Ok(())
 }
 
-fn main() {
-    write_runs(16, 0x120000);
-    write_runs(10, 10_000_000);
-    let mut lines = io::large_buffer();
-    let n = io::read_full(0, &mut lines);
-    write_names(&lines[..n]);
+fn main(rt: HostRuntime) -> io::Result<()> {
+    let alloc = rt.alloc();
+    write_runs(&rt, alloc, 16, 0x120000)?;
+    write_runs(&rt, alloc, 10, 10_000_000)?;
+    let mut lines = Vec::new(alloc);
+    rt.reader().take(MOST_LINES).read_to_end(&mut lines)?;
+    write_names(&rt, &lines)
 }
