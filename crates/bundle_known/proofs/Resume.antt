@@ -1,4 +1,5 @@
 -- Bytes that come in two parts come to what both together come to; and what holds of what they come to. Assumes nothing.
+use Rattle.std.specs.Prelude.{if◌then◌else◌}
 use mathlib.Core.Path.{◌≡◌, refl, sym, ap, ◌∙◌}
 use mathlib.Core.Logic.{⊎_elim}
 use mathlib.Core.Bool.{Bool, true, false}
@@ -10,7 +11,6 @@ use borrow.Author.Tests.{lt-leb, le-leb}
 use lib.Dec.{leb}
 use lib.ListN.{length, drop, length-append, length-drop}
 use lib.Seq.{take-append-le, drop-append-le}
-use Rattle.lent.specs.Bytes.{if◌then◌else◌}
 use Rattle.bundle_block.specs.declared.Verdict.{Verdict}
 use Rattle.bundle_block.specs.declared.Verdict.TheVariants.{Good, Bad}
 use Rattle.bundle_block.specs.Block.{◌before◌, field}
@@ -143,7 +143,7 @@ module _ (a b : List ℕ) (h : 512 ≤ length a) where
 -- by whether block 0 is there
 pub begun-runs : (k : Known) (t e l : List ℕ) → k.begun ≡ true → advance_of k t e l ≡ runs_of k t e l
 unfolding advance_of
-begun-runs k t e l p = ap (λ (x : Bool). if x then runs_of k t e l else if leb 512 (length l) then unless (judge_header l) (runs_of (said_in l) t e (drop 512 l)) else goes k t e l) p
+begun-runs k t e l p = ap (λ (x : Bool). if x then runs_of k t e l else (if leb 512 (length l) then unless (judge_header l) (runs_of (said_in l) t e (drop 512 l)) else goes k t e l)) p
 
 module _ (k : Known) (t e l : List ℕ) (p : k.begun ≡ false) where
   pub no_block : length l < 512 → advance_of k t e l ≡ goes k t e l

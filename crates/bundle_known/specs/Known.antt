@@ -1,6 +1,5 @@
 -- What is known of a bundle while it comes, and what more bytes of it add, from any state. For the parts of one bundle nobody has to read this: `ended` and `fed` of bundle_parts say it by the joined bytes alone. Assumes nothing.
-use Rattle.std.specs.Prelude.{Bool, true, false, ◌&&◌, List, ℕ, ◌+◌, ◌-◌, ◌*◌, ◌/◌, min, leb, length, drop}
-use Rattle.lent.specs.Bytes.{if◌then◌else◌}
+use Rattle.std.specs.Prelude.{Bool, true, false, ◌&&◌, List, ℕ, ◌+◌, ◌-◌, ◌*◌, ◌/◌, min, leb, length, drop, if◌then◌else◌}
 use Rattle.lent.specs.Fill.{fill}
 use Rattle.bundle_block.specs.declared.Refusal.{Refusal}
 use Rattle.bundle_block.specs.declared.Verdict.{Verdict}
@@ -90,5 +89,5 @@ runs_of k t e l = text_of k t e l then events_of
 unfoldable pub advance_of : Known → (t e l : List ℕ) → Came
 advance_of k t e l =
     if k.begun then runs_of k t e l
-    else if leb 512 (length l) then unless (judge_header l) (runs_of (said_in l) t e (drop 512 l))
-    else goes k t e l
+    else (if leb 512 (length l) then unless (judge_header l) (runs_of (said_in l) t e (drop 512 l))
+    else goes k t e l)

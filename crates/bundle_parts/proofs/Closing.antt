@@ -1,4 +1,5 @@
 -- The end, after all bytes in one part or none. Assumes nothing.
+use Rattle.std.specs.Prelude.{if◌then◌else◌}
 use mathlib.Core.Path.{◌≡◌, refl, sym, ap, ◌∙◌}
 use mathlib.Core.Bool.{Bool, true, false, not, ◌&&◌}
 use mathlib.Core.List.{List, []}
@@ -7,7 +8,6 @@ use native.Mathlib.Decide.{dec_le, ℕ_discrete}
 use native.Mathlib.Omega.{arith}
 use borrow.Author.Tests.{lt-leb}
 use lib.ListN.{length, length-append, length-replicate}
-use Rattle.lent.specs.Bytes.{if◌then◌else◌}
 use Rattle.lent.specs.Fill.{fill, zeros}
 use Rattle.bundle_block.specs.declared.Refusal.{Refusal}
 use Rattle.bundle_block.specs.declared.Refusal.TheVariants.{Short, Broken}

@@ -1,4 +1,5 @@
 -- All bytes in one part: the refusal of the first block at fault that has come whole, or what has come so far with zeros behind it. Assumes nothing.
+use Rattle.std.specs.Prelude.{if◌then◌else◌}
 use mathlib.Core.Path.{◌≡◌, refl, ◌∙◌}
 use mathlib.Core.Bool.{Bool, true, false, not, ◌&&◌, ◌||◌}
 use mathlib.Core.List.{List, [], ◌++◌}
@@ -10,7 +11,6 @@ use borrow.Author.Tests.{leb-true, le-leb, lt-leb}
 use lib.Dec.{leb}
 use lib.ListN.{length, take, drop, length-append, length-drop, length-replicate}
 use lib.Seq.{take_all}
-use Rattle.lent.specs.Bytes.{if◌then◌else◌}
 use Rattle.lent.specs.Fill.{fill, zeros}
 use Rattle.lent.proofs.Laws.{and_left, and_right}
 use Rattle.bundle_block.specs.declared.Refusal.{Refusal}

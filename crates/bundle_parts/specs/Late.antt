@@ -1,6 +1,5 @@
 -- A bundle that comes in parts (RULES R15.10), on the joined bytes: as the whole-file reader's, but each block is judged once it has come whole, and what is wrong with the length only at the end. Assumes nothing.
-use Rattle.std.specs.Prelude.{Bool, ◌&&◌, List, [], ℕ, ◌+◌, ◌-◌, ◌/◌, min, leb, length}
-use Rattle.lent.specs.Bytes.{if◌then◌else◌}
+use Rattle.std.specs.Prelude.{Bool, ◌&&◌, List, [], ℕ, ◌+◌, ◌-◌, ◌/◌, min, leb, length, if◌then◌else◌}
 use Rattle.bundle_block.specs.declared.Refusal.TheVariants.{Short}
 use Rattle.bundle_block.specs.declared.Verdict.{Verdict}
 use Rattle.bundle_block.specs.declared.Verdict.TheVariants.{Good}

@@ -1,4 +1,5 @@
 -- The two calls undo each other: what was written is read again, and what was read is written again, byte for byte. Assumes nothing.
+use Rattle.std.specs.Prelude.{if◌then◌else◌}
 use mathlib.Core.Path.{◌≡◌, refl, sym, ap, ◌∙◌}
 use mathlib.Core.Bool.{Bool, true, false, not, ◌&&◌}
 use mathlib.Core.List.{List, ◌++◌}
@@ -8,7 +9,7 @@ use borrow.Author.Tests.{le-leb, le-ltb, eq-eqb}
 use lib.Dec.{leb, ltb}
 use lib.ListN.{length, take}
 use lib.Seq.{take_at}
-use Rattle.lent.specs.Bytes.{if◌then◌else◌, all}
+use Rattle.lent.specs.Bytes.{all}
 use Rattle.lent.specs.Fill.{zeros}
 use Rattle.bundle_block.specs.declared.Refusal.TheVariants.{Short}
 use Rattle.bundle_block.specs.Block.{is_byte}
@@ -31,7 +32,7 @@ record Answered (text events : List ℕ) (edition : ℕ) (d e : List ℕ) (n : �
   bytes : e ≡ bundle_of text events edition ++ zeros (length d - length (bundle_of text events edition))
 
 -- the two tests, as Bools
-told : (right short : Bool) {n m : ℕ} → Length n ≡ (if not right then WrongLength else if short then NoRoom else Length m) → (right ≡ true) × (short ≡ false) × (n ≡ m)
+told : (right short : Bool) {n m : ℕ} → Length n ≡ (if not right then WrongLength else (if short then NoRoom else Length m)) → (right ≡ true) × (short ≡ false) × (n ≡ m)
 told true false p = (refl, refl, cc)
 told true true p = let z : ◌≡◌ {A = ℕ} 0 1 = cc in absurd (omega arith)
 told false short p = let z : ◌≡◌ {A = ℕ} 0 1 = cc in absurd (omega arith)

@@ -1,6 +1,5 @@
 -- The call that writes a bundle (RULES R15.8): its answer, the answer's numbers, and every byte of the buffer afterwards. Assumes nothing.
-use Rattle.std.specs.Prelude.{◌≡◌, Bool, not, ◌&&◌, List, ◌++◌, ℕ, ◌-◌, ◌*◌, ◌%◌, eqb, leb, ltb, length}
-use Rattle.lent.specs.Bytes.{if◌then◌else◌}
+use Rattle.std.specs.Prelude.{◌≡◌, Bool, not, ◌&&◌, List, ◌++◌, ℕ, ◌-◌, ◌*◌, ◌%◌, eqb, leb, ltb, length, if◌then◌else◌}
 use Rattle.lent.specs.Fill.{zeros}
 use Rattle.bundle_read.specs.Bundle.{bundle_of}
 use Rattle.bundle_read.specs.Sizes.{most_text, most_events, record_size}
@@ -27,8 +26,8 @@ right_lengths text events = leb text most_text && leb events (record_size * most
 unfoldable pub choose : {A : Type 0} → (text events : List ℕ) (edition room : ℕ) → (wrong none packed : A) → A
 choose text events edition room wrong none packed =
     if not (right_lengths (length text) (length events)) then wrong
-    else if ltb room (length (bundle_of text events edition)) then none
-    else packed
+    else (if ltb room (length (bundle_of text events edition)) then none
+    else packed)
 
 -- a call with this text, these events and this edition, on the buffer d, answered r and left e
 pub record HasPacked (text events : List ℕ) (edition : ℕ) (d e : List ℕ) (r : Packed) : Type 0 where

@@ -1,4 +1,5 @@
 -- On a checked note the run under limits gives a page, 8 or 9: it never stops. Assumes nothing.
+use Rattle.std.specs.Prelude.{if◌then◌else◌}
 use mathlib.Core.Path.{◌≡◌}
 use mathlib.Core.Bool.{Bool, true, false, ◌||◌}
 use mathlib.Core.List.{List}
@@ -6,7 +7,6 @@ use mathlib.Core.Option.{Option, none, some}
 use Prim.Native.Nat.{ℕ}
 use lib.Dec.{ltb}
 use lib.ListN.{length}
-use Rattle.lent.specs.Bytes.{if◌then◌else◌}
 use Rattle.event.specs.Event.{events_of}
 use Rattle.check_list.specs.declared.Checked.TheVariants.{Yes}
 use Rattle.check_list.specs.Checked.{check_of}
@@ -31,7 +31,7 @@ pub data Given : Answer → Type 0 where
   page-full : (place : ℕ) → Given (refused 9 place)
 
 abbrev limit : Bool → Bool → Option ℕ
-limit x y = if x then some 8 else if y then some 9 else none
+limit x y = if x then some 8 else (if y then some 9 else none)
 
 module _ (room n : ℕ) where
   -- within the limits it goes on

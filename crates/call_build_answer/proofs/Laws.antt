@@ -1,4 +1,5 @@
 -- Which of refusals 1 to 7 it is, and what clearing leaves. Assumes nothing.
+use Rattle.std.specs.Prelude.{if◌then◌else◌}
 use mathlib.Core.Path.{◌≡◌, refl, sym, ◌∙◌}
 use mathlib.Core.Bool.{Bool, true, false}
 use mathlib.Core.List.{List}
@@ -7,7 +8,6 @@ use native.Mathlib.Omega.{arith}
 use borrow.Author.Tests.{lt-ltb, le-ltb, ltb-false}
 use lib.Dec.{ltb}
 use lib.ListN.{length}
-use Rattle.lent.specs.Bytes.{if◌then◌else◌}
 use Rattle.lent.specs.Fill.{zeros}
 use Rattle.regions.specs.Sizes.{work_size}
 use Rattle.check_list.specs.declared.Checked.{Checked}

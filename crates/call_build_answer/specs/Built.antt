@@ -1,6 +1,5 @@
 -- The build's answers, number and value of each (RULES R7.1), refusals 1 to 7, and what an answer leaves in the lent buffers. Assumes nothing.
-use Rattle.std.specs.Prelude.{◌≡◌, List, ◌++◌, ℕ, ◌-◌, ltb, length, take}
-use Rattle.lent.specs.Bytes.{if◌then◌else◌}
+use Rattle.std.specs.Prelude.{◌≡◌, List, ◌++◌, ℕ, ◌-◌, ltb, length, take, if◌then◌else◌}
 use Rattle.lent.specs.Fill.{zeros}
 use Rattle.regions.specs.Sizes.{work_size}
 use Rattle.check_list.specs.declared.Checked.{Checked}

@@ -1,4 +1,5 @@
 -- Each URL of a list that is taken is one that a single call takes: short enough, and UTF-8. Assumes nothing.
+use Rattle.std.specs.Prelude.{if◌then◌else◌}
 use mathlib.Core.Path.{◌≡◌, refl, sym, ap, ◌∙◌}
 use mathlib.Core.Bool.{Bool, true, false}
 use mathlib.Core.List.{List, [], ◌∷◌, ◌++◌}
@@ -8,7 +9,6 @@ use borrow.Author.Tests.{le-ltb}
 use lib.Dec.{T}
 use lib.ListN.{length, take, drop, length-take}
 use lib.Seq.{take-add}
-use Rattle.lent.specs.Bytes.{if◌then◌else◌}
 use Rattle.lent.proofs.Computed.{is_true}
 use Rattle.utf8.specs.declared.Due.TheVariants.{First}
 use Rattle.utf8.specs.Utf8.{is_utf8, inside, run}

@@ -1,4 +1,5 @@
 -- A list of links and single calls: what single calls write, one behind the other, is what the list's call writes. Assumes nothing.
+use Rattle.std.specs.Prelude.{if◌then◌else◌}
 use mathlib.Core.Path.{◌≡◌, refl, sym, ap, ap₂, ◌∙◌}
 use mathlib.Core.Bool.{Bool, true, false, not}
 use mathlib.Core.List.{List, [], ◌∷◌, ◌++◌}
@@ -7,7 +8,6 @@ use native.Mathlib.Omega.{arith}
 use lib.Dec.{ltb}
 use lib.ListN.{length, take, drop}
 use lib.Seq.{take_at}
-use Rattle.lent.specs.Bytes.{if◌then◌else◌}
 use Rattle.lent.specs.Fill.{zeros}
 use Rattle.utf8.specs.Utf8.{is_utf8}
 use Rattle.call_text_answer.specs.declared.Written.TheVariants.{Length, TooLong, NotUtf8, NoRoom}
@@ -29,8 +29,8 @@ pub data Calls (on : Bool) : List (List ℕ) → List ℕ → List ℕ → Type 
   none : Calls on [] [] []
   one : {url d e bytes lengths : List ℕ} {urls : List (List ℕ)} {n : ℕ} → Wrote url (link_of on url) d e (Length n) → Calls on urls bytes lengths → Calls on (url ∷ urls) (take n e ++ bytes) (n ∷ lengths)
 
-answered : (x y z : Bool) (result e f g : List ℕ) (n : ℕ) → Length n ≡ (if x then TooLong else if not y then NotUtf8 else if z then NoRoom else Length (length result))
-    → e ≡ (if x then f else if not y then f else if z then f else result ++ g) → (n ≡ length result) × (take n e ≡ result)
+answered : (x y z : Bool) (result e f g : List ℕ) (n : ℕ) → Length n ≡ (if x then TooLong else (if not y then NotUtf8 else (if z then NoRoom else Length (length result))))
+    → e ≡ (if x then f else (if not y then f else (if z then f else result ++ g))) → (n ≡ length result) × (take n e ≡ result)
 answered true y z result e f g n p q = let z : ◌≡◌ {A = ℕ} 0 1 = cc in absurd (omega arith)
 answered false false z result e f g n p q = let z : ◌≡◌ {A = ℕ} 0 1 = cc in absurd (omega arith)
 answered false true true result e f g n p q = let z : ◌≡◌ {A = ℕ} 0 1 = cc in absurd (omega arith)
@@ -53,8 +53,8 @@ together on text from (e ∷ es) (one w c) =
 
 -- a list's answer that is a length is the last case
 last : {A : Type 0} (x y z u v w : Bool) (i j k n m : ℕ) (a b : A)
-    → L.Length n ≡ (if x then L.WrongSize else if y then L.WrongSize else if z then L.WrongEnd i else if not u then L.NotUtf8 else if v then L.Cut j else if w then L.NoRoom k else L.Length m)
-    → (if x then a else if y then a else if z then a else if not u then a else if v then a else if w then a else b) ≡ b
+    → L.Length n ≡ (if x then L.WrongSize else (if y then L.WrongSize else (if z then L.WrongEnd i else (if not u then L.NotUtf8 else (if v then L.Cut j else (if w then L.NoRoom k else L.Length m))))))
+    → (if x then a else (if y then a else (if z then a else (if not u then a else (if v then a else (if w then a else b)))))) ≡ b
 last true y z u v w i j k n m a b p = let z : ◌≡◌ {A = ℕ} 0 1 = cc in absurd (omega arith)
 last false true z u v w i j k n m a b p = let z : ◌≡◌ {A = ℕ} 0 1 = cc in absurd (omega arith)
 last false false true u v w i j k n m a b p = let z : ◌≡◌ {A = ℕ} 0 1 = cc in absurd (omega arith)

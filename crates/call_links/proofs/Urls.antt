@@ -1,4 +1,5 @@
 -- The next URL of a list: where it ends, what it gives, and whether that has room. Assumes nothing.
+use Rattle.std.specs.Prelude.{if◌then◌else◌}
 use mathlib.Core.Path.{◌≡◌, refl}
 use mathlib.Core.Bool.{Bool, true, false, ◌||◌}
 use mathlib.Core.List.{List, [], ◌∷◌}
@@ -7,7 +8,6 @@ use native.Mathlib.Omega.{arith}
 use borrow.Author.Tests.{lt-ltb, le-ltb, ltb-false}
 use lib.Dec.{ltb}
 use lib.ListN.{length, take, drop}
-use Rattle.lent.specs.Bytes.{if◌then◌else◌}
 use Rattle.call_links_answer.specs.Links.{link_of, links_from, ordered, fitting}
 
 -- ---- a first URL, and those behind it

@@ -1,4 +1,5 @@
 -- The two loops over the ends: the URLs that were passed, and those that are left without a fault, make the whole count. Assumes nothing.
+use Rattle.std.specs.Prelude.{if◌then◌else◌}
 use mathlib.Core.Path.{◌≡◌, refl, sym, ◌∙◌}
 use mathlib.Core.Bool.{Bool, true, false, ◌||◌}
 use mathlib.Core.List.{List, [], ◌∷◌}
@@ -6,7 +7,6 @@ use Prim.Native.Nat.{ℕ, suc, ◌+◌, ◌≤◌, ◌<◌}
 use native.Mathlib.Omega.{arith}
 use lib.Dec.{ltb}
 use lib.ListN.{length, drop, get_or, drop_of_length-le}
-use Rattle.lent.specs.Bytes.{if◌then◌else◌}
 use Rattle.lent.proofs.Laws.{next}
 use Rattle.utf8.specs.Utf8.{inside}
 use Rattle.call_links_answer.specs.Links.{ordered, uncut}

@@ -1,4 +1,5 @@
 -- From what is taken to the answer. Assumes nothing.
+use Rattle.std.specs.Prelude.{if◌then◌else◌}
 use mathlib.Core.Path.{◌≡◌, refl, sym, ◌∙◌}
 use mathlib.Core.Bool.{Bool, true, false, not}
 use mathlib.Core.List.{List}
@@ -7,7 +8,6 @@ use native.Mathlib.Omega.{arith}
 use borrow.Author.Tests.{lt-ltb, le-ltb, ltb-false}
 use lib.Dec.{ltb}
 use lib.ListN.{length}
-use Rattle.lent.specs.Bytes.{if◌then◌else◌}
 use Rattle.lent.specs.Fill.{zeros}
 use Rattle.utf8.specs.Utf8.{is_utf8}
 use Rattle.call_links_answer.specs.declared.Listed.{Listed}
@@ -21,14 +21,14 @@ use Rattle.call_links_answer.proofs.Promise.{answer_of, told}
 abbrev taking : (x y z u v : Bool) (n m : ℕ) → Taken
 taking x y z u v n m =
     if x then Refused WrongSize
-    else if y then Refused WrongSize
-    else if z then Refused (WrongEnd n)
-    else if not u then Refused NotUtf8
-    else if v then Refused (Cut m)
-    else Yes
+    else (if y then Refused WrongSize
+    else (if z then Refused (WrongEnd n)
+    else (if not u then Refused NotUtf8
+    else (if v then Refused (Cut m)
+    else Yes))))
 
 abbrev answering : (x y z u v : Bool) (n m : ℕ) → Listed → Listed
-answering x y z u v n m w = if x then WrongSize else if y then WrongSize else if z then WrongEnd n else if not u then NotUtf8 else if v then Cut m else w
+answering x y z u v n m w = if x then WrongSize else (if y then WrongSize else (if z then WrongEnd n else (if not u then NotUtf8 else (if v then Cut m else w))))
 
 -- an answer that is no length leaves zeros
 abbrev Clears : Listed → Type 0

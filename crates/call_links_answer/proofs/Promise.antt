@@ -1,11 +1,11 @@
 -- The answer, and what it leaves in the buffers, make the promise; two results that meet it are equal. Assumes nothing.
+use Rattle.std.specs.Prelude.{if◌then◌else◌}
 use mathlib.Core.Path.{◌≡◌, refl, sym, ap, ◌∙◌}
 use mathlib.Core.Bool.{Bool, true, false, not}
 use mathlib.Core.List.{List}
 use Prim.Native.Nat.{ℕ}
 use lib.Dec.{ltb}
 use lib.ListN.{length}
-use Rattle.lent.specs.Bytes.{if◌then◌else◌}
 use Rattle.utf8.specs.Utf8.{is_utf8}
 use Rattle.call_links_answer.specs.declared.Listed.{Listed}
 use Rattle.call_links_answer.specs.declared.Listed.TheVariants.{Length, WrongSize, WrongEnd, NotUtf8, Cut, NoRoom}
@@ -19,7 +19,7 @@ unique p q = (p.answer ∙ sym q.answer, p.bytes ∙ sym q.bytes, p.lengths ∙ 
 -- ---- what the answer says of the buffers is the promise
 
 abbrev picked : {A : Type 0} → (x y z u v w : Bool) (i j n : ℕ) (a : A) (b : ℕ → A) (c : A) (d g : ℕ → A) (h : A) → A
-picked x y z u v w i j n a b c d g h = if x then a else if y then a else if z then b i else if not u then c else if v then d j else if w then g n else h
+picked x y z u v w i j n a b c d g h = if x then a else (if y then a else (if z then b i else (if not u then c else (if v then d j else (if w then g n else h)))))
 
 picked-map : {A B : Type 0} (f : A → B) (x y z u v w : Bool) (i j n : ℕ) (a : A) (b : ℕ → A) (c : A) (d g : ℕ → A) (h : A)
     → f (picked x y z u v w i j n a b c d g h) ≡ picked x y z u v w i j n (f a) (λ k. f (b k)) (f c) (λ k. f (d k)) (λ k. f (g k)) (f h)

@@ -1,6 +1,5 @@
 -- A list of links in one text (RULES R22): what each gives, and which is the first that is at fault. Assumes nothing.
-use Rattle.std.specs.Prelude.{Bool, ◌||◌, List, [], ◌∷◌, ◌++◌, ℕ, suc, ◌-◌, ltb, length, take, drop}
-use Rattle.lent.specs.Bytes.{if◌then◌else◌}
+use Rattle.std.specs.Prelude.{Bool, ◌||◌, List, [], ◌∷◌, ◌++◌, ℕ, suc, ◌-◌, ltb, length, take, drop, if◌then◌else◌}
 use Rattle.utf8.specs.Utf8.{inside}
 use Rattle.sanitize_uri.specs.Protocols.{link_schemes, sanitize_with_protocols_of}
 

@@ -1,6 +1,5 @@
 -- The call that takes a list of links (RULES R22): its answer, the answer's numbers, and both buffers afterwards. Assumes nothing.
-use Rattle.std.specs.Prelude.{◌≡◌, Bool, not, List, ◌++◌, ℕ, ◌-◌, ltb, length, take}
-use Rattle.lent.specs.Bytes.{if◌then◌else◌}
+use Rattle.std.specs.Prelude.{◌≡◌, Bool, not, List, ◌++◌, ℕ, ◌-◌, ltb, length, take, if◌then◌else◌}
 use Rattle.lent.specs.Fill.{zeros}
 use Rattle.utf8.specs.Utf8.{is_utf8}
 use Rattle.call_links_answer.specs.declared.Listed.{Listed}
@@ -32,12 +31,12 @@ value_of (NoRoom k) = k
 unfoldable pub choose : {A : Type 0} → (apostrophes : Bool) (text ends : List ℕ) (room places : ℕ) → (size : A) (end : ℕ → A) (other : A) (cut none : ℕ → A) (written : A) → A
 choose apostrophes text ends room places size end other cut none written =
     if ltb 64000 (length text) then size
-    else if ltb places (length ends) then size
-    else if ltb (ordered (length text) 0 ends) (length ends) then end (ordered (length text) 0 ends)
-    else if not (is_utf8 text) then other
-    else if ltb (uncut text ends) (length ends) then cut (uncut text ends)
-    else if ltb (fitting room (links_from apostrophes text 0 ends)) (length ends) then none (fitting room (links_from apostrophes text 0 ends))
-    else written
+    else (if ltb places (length ends) then size
+    else (if ltb (ordered (length text) 0 ends) (length ends) then end (ordered (length text) 0 ends)
+    else (if not (is_utf8 text) then other
+    else (if ltb (uncut text ends) (length ends) then cut (uncut text ends)
+    else (if ltb (fitting room (links_from apostrophes text 0 ends)) (length ends) then none (fitting room (links_from apostrophes text 0 ends))
+    else written)))))
 
 -- a buffer d with s in front and zeros behind
 abbrev pub filled : (d s : List ℕ) → List ℕ
@@ -61,11 +60,11 @@ pub record Lists (apostrophes : Bool) (text ends d l e m : List ℕ) (r : Listed
 unfoldable pub taken_of : (text ends : List ℕ) (places : ℕ) → Taken
 taken_of text ends places =
     if ltb 64000 (length text) then Refused WrongSize
-    else if ltb places (length ends) then Refused WrongSize
-    else if ltb (ordered (length text) 0 ends) (length ends) then Refused (WrongEnd (ordered (length text) 0 ends))
-    else if not (is_utf8 text) then Refused NotUtf8
-    else if ltb (uncut text ends) (length ends) then Refused (Cut (uncut text ends))
-    else Yes
+    else (if ltb places (length ends) then Refused WrongSize
+    else (if ltb (ordered (length text) 0 ends) (length ends) then Refused (WrongEnd (ordered (length text) 0 ends))
+    else (if not (is_utf8 text) then Refused NotUtf8
+    else (if ltb (uncut text ends) (length ends) then Refused (Cut (uncut text ends))
+    else Yes))))
 
 -- what an answer leaves in a buffer d, where s is what is written
 abbrev pub left : (d s : List ℕ) → Listed → List ℕ

@@ -1,4 +1,5 @@
 -- What the call goes by, that two results that meet its contract are equal, and that no more is visited than bytes. Assumes nothing.
+use Rattle.std.specs.Prelude.{if◌then◌else◌}
 use mathlib.Core.Path.{◌≡◌, refl, sym, ap, ◌∙◌}
 use mathlib.Core.Bool.{Bool, true, false, not}
 use mathlib.Core.List.{List}
@@ -6,7 +7,6 @@ use Prim.Native.Nat.{ℕ, ◌≤◌}
 use native.Mathlib.Omega.{arith}
 use lib.Dec.{ltb}
 use lib.ListN.{length}
-use Rattle.lent.specs.Bytes.{if◌then◌else◌}
 use Rattle.utf8.specs.Utf8.{is_utf8}
 use Rattle.normalize_uri.specs.Url.{normalize_of}
 use Rattle.normalize_visits.specs.Visits.{visits_of}
@@ -25,7 +25,7 @@ unique p q = (p.answer ∙ sym q.answer, p.bytes ∙ sym q.bytes)
 -- ---- what is chosen, as another choice
 
 four : {A B : Type 0} (f : A → B) (long valid lacks : Bool) (a b c w : A)
-    → f (if long then a else if not valid then b else if lacks then c else w) ≡ (if long then f a else if not valid then f b else if lacks then f c else f w)
+    → f (if long then a else (if not valid then b else (if lacks then c else w))) ≡ (if long then f a else (if not valid then f b else (if lacks then f c else f w)))
 four f true valid lacks a b c w = refl
 four f false false lacks a b c w = refl
 four f false true true a b c w = refl
@@ -69,7 +69,7 @@ module _ {url d e : List ℕ} {w : Written} (p : Wrote url (normalize_of url) d 
 
 -- ---- no more visits than bytes, after a refusal too
 
-within : (long valid lacks : Bool) (n m v : ℕ) → m ≤ n → v ≡ (if long then 0 else if not valid then 0 else if lacks then 0 else m) → v ≤ n
+within : (long valid lacks : Bool) (n m v : ℕ) → m ≤ n → v ≡ (if long then 0 else (if not valid then 0 else (if lacks then 0 else m))) → v ≤ n
 within true valid lacks n m v h q = omega arith
 within false false lacks n m v h q = omega arith
 within false true true n m v h q = omega arith

@@ -1,4 +1,5 @@
 -- With so much room no call that writes a text answers 9. Assumes nothing.
+use Rattle.std.specs.Prelude.{if◌then◌else◌}
 use mathlib.Core.Path.{◌≡◌, sym, ◌∙◌}
 use mathlib.Core.Bool.{Bool, true, false, not}
 use mathlib.Core.List.{List}
@@ -8,7 +9,6 @@ use native.Mathlib.Omega.{arith}
 use borrow.Author.Tests.{le-ltb}
 use lib.Dec.{ltb}
 use lib.ListN.{length}
-use Rattle.lent.specs.Bytes.{if◌then◌else◌}
 use Rattle.utf8.specs.Utf8.{is_utf8}
 use Rattle.encode_byte.specs.declared.Escaping.{Escaping}
 use Rattle.encode_byte.specs.declared.Escaping.TheVariants.{Off}
@@ -24,7 +24,7 @@ use Rattle.call_room.specs.Room.{most_escaped, most_replaced, most_sanitized, mo
 use Rattle.call_room.proofs.Escaped.{escaped-most, replaced-most}
 use Rattle.call_room.proofs.Urls.{normalized-most, sanitized-most, listed-most}
 
-never : (long valid : Bool) (n : ℕ) → n ≡ (if long then 1 else if not valid then 2 else 0) → n ≡ 9 → ⊥
+never : (long valid : Bool) (n : ℕ) → n ≡ (if long then 1 else (if not valid then 2 else 0)) → n ≡ 9 → ⊥
 never true valid n p q = omega arith
 never false false n p q = omega arith
 never false true n p q = omega arith

@@ -1,4 +1,5 @@
 -- How much longer a text gets where each byte adds its own, said once for all that is made byte by byte. Assumes nothing.
+use Rattle.std.specs.Prelude.{if◌then◌else◌}
 use mathlib.Core.Path.{◌≡◌}
 use mathlib.Core.Bool.{Bool, true, false}
 use mathlib.Core.List.{List, [], ◌∷◌}
@@ -6,7 +7,6 @@ use Prim.Native.Nat.{ℕ, zero, suc, ◌+◌, ◌*◌, ◌≤◌}
 use native.Mathlib.Nat.{mul-suc, mul-zero}
 use native.Mathlib.Omega.{arith}
 use lib.ListN.{length, replicate}
-use Rattle.lent.specs.Bytes.{if◌then◌else◌}
 
 -- f makes at most, or exactly, k bytes more where a byte more comes first
 module _ (f : List ℕ → List ℕ) (k : ℕ) (none : length (f []) ≡ 0) where

@@ -1,4 +1,5 @@
 -- What the public calls go by, and that two results that meet a contract are equal. Assumes nothing.
+use Rattle.std.specs.Prelude.{if◌then◌else◌}
 use mathlib.Core.Path.{◌≡◌, refl, sym, ap, ◌∙◌}
 use mathlib.Core.Bool.{Bool, true, false, not}
 use mathlib.Core.Logic.{◌⊎◌, ⊎_elim, inl, inr}
@@ -10,7 +11,6 @@ use native.Mathlib.Omega.{arith}
 use borrow.Author.Tests.{lt-ltb, le-ltb, le-leb, lt-leb}
 use lib.Dec.{leb, ltb}
 use lib.ListN.{length, take}
-use Rattle.lent.specs.Bytes.{if◌then◌else◌}
 use Rattle.lent.specs.Fill.{fill, past, zeros, Filled}
 use Rattle.lent.proofs.Laws.{length-filled, take-fill}
 use Rattle.utf8.specs.Utf8.{is_utf8}
@@ -41,13 +41,13 @@ module _ (text : List ℕ) where
     not-utf8 q = rw (le-ltb 64000 (length text) h, ← p, q)
 
 -- the two tests, as Bools
-refused-case : (long valid : Bool) (w : Written) → (if long then Refused TooLong else if valid then Yes else Refused NotUtf8) ≡ Refused w
+refused-case : (long valid : Bool) (w : Written) → (if long then Refused TooLong else (if valid then Yes else Refused NotUtf8)) ≡ Refused w
     → ((long ≡ true) × (w ≡ TooLong)) ⊎ ((long ≡ false) × (valid ≡ false) × (w ≡ NotUtf8))
 refused-case true valid w p = inl (refl, cc)
 refused-case false true w p = let z : ◌≡◌ {A = ℕ} 0 1 = cc in absurd (omega arith)
 refused-case false false w p = inr (refl, refl, cc)
 
-yes-case : (long valid : Bool) → (if long then Refused TooLong else if valid then Yes else Refused NotUtf8) ≡ Yes → (long ≡ false) × (valid ≡ true)
+yes-case : (long valid : Bool) → (if long then Refused TooLong else (if valid then Yes else Refused NotUtf8)) ≡ Yes → (long ≡ false) × (valid ≡ true)
 yes-case true valid p = let z : ◌≡◌ {A = ℕ} 0 1 = cc in absurd (omega arith)
 yes-case false true p = (refl, refl)
 yes-case false false p = let z : ◌≡◌ {A = ℕ} 0 1 = cc in absurd (omega arith)

@@ -1,6 +1,5 @@
 -- Calls that write a text (RULES R7.7): their answers, the answers' numbers, and every byte afterwards. Assumes nothing.
-use Rattle.std.specs.Prelude.{◌≡◌, Bool, not, List, ◌++◌, ℕ, ◌-◌, leb, ltb, length, take}
-use Rattle.lent.specs.Bytes.{if◌then◌else◌}
+use Rattle.std.specs.Prelude.{◌≡◌, Bool, not, List, ◌++◌, ℕ, ◌-◌, leb, ltb, length, take, if◌then◌else◌}
 use Rattle.lent.specs.Fill.{zeros}
 use Rattle.utf8.specs.Utf8.{is_utf8}
 use Rattle.call_text_answer.specs.declared.Taken.{Taken}
@@ -26,9 +25,9 @@ value_of NoRoom = 0
 unfoldable pub choose : {A : Type 0} → (text result : List ℕ) (room : ℕ) → (long other none written : A) → A
 choose text result room long other none written =
     if ltb 64000 (length text) then long
-    else if not (is_utf8 text) then other
-    else if ltb room (length result) then none
-    else written
+    else (if not (is_utf8 text) then other
+    else (if ltb room (length result) then none
+    else written))
 
 -- a call with this text and this result, on the buffer d, answered r and left e
 pub record Wrote (text result d e : List ℕ) (r : Written) : Type 0 where
@@ -41,7 +40,7 @@ pub record Wrote (text result d e : List ℕ) (r : Written) : Type 0 where
 
 -- 1 and 2 alone
 unfoldable pub taken_of : List ℕ → Taken
-taken_of text = if ltb 64000 (length text) then Refused TooLong else if is_utf8 text then Yes else Refused NotUtf8
+taken_of text = if ltb 64000 (length text) then Refused TooLong else (if is_utf8 text then Yes else Refused NotUtf8)
 
 -- 9 alone: what stands in d up to the place end is the result, or had no room
 pub record Ended (d : List ℕ) (end : ℕ) (e : List ℕ) (r : Written) : Type 0 where

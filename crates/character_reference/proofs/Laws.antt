@@ -1,4 +1,5 @@
 -- The laws of character references: what the code's cases rest on, and what callers go by. Assumes nothing.
+use Rattle.std.specs.Prelude.{if◌then◌else◌}
 use mathlib.Core.Path.{◌≡◌, refl, sym, subst, ◌∙◌}
 use mathlib.Core.Bool.{Bool, true, false, not, ◌||◌}
 use mathlib.Core.List.{List}
@@ -8,7 +9,7 @@ use native.Mathlib.Omega.{arith}
 use borrow.Author.Tests.{lt-ltb, le-ltb, le-leb, ltb-false, leb-false, not-true}
 use lib.Dec.{eqb, leb, ltb, lit≤}
 use lib.ListN.{length}
-use Rattle.lent.specs.Bytes.{if◌then◌else◌, between}
+use Rattle.lent.specs.Bytes.{between}
 use Rattle.lent.specs.Fill.{Filled}
 use Rattle.lent.proofs.Laws.{none, and_left, and_right, or_left, or_right}
 use Rattle.character_reference.specs.declared.Names.{Names}

@@ -1,4 +1,5 @@
 -- The laws of numbers and digits: what the code's cases rest on. Assumes nothing.
+use Rattle.std.specs.Prelude.{if◌then◌else◌}
 use mathlib.Core.Path.{◌≡◌, sym}
 use mathlib.Core.Bool.{Bool, true, false, and-false, or-true}
 use mathlib.Core.List.{List}
@@ -11,7 +12,7 @@ use lib.Dec.{leb, lit<}
 use mir.Val.{Fits}
 use mir.Syntax.{w32}
 use lib.ListN.{length, drop, get_or, drop_of_length-le}
-use Rattle.lent.specs.Bytes.{if◌then◌else◌, between, all}
+use Rattle.lent.specs.Bytes.{between, all}
 use Rattle.lent.proofs.Laws.{next}
 use Rattle.character_reference.specs.declared.Value.{Value}
 use Rattle.character_reference.specs.declared.Value.TheVariants.{Code, Broken}

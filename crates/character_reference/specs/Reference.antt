@@ -1,7 +1,7 @@
 -- Character references, RULES R13 (character_reference.rs): what the value of one stands for. Assumes nothing.
-use Rattle.std.specs.Prelude.{Bool, true, false, ◌&&◌, ◌||◌, List, [], ◌∷◌, ℕ, ◌+◌, ◌-◌, ◌*◌, ltb, leb, eqb, length}
+use Rattle.std.specs.Prelude.{Bool, true, false, ◌&&◌, ◌||◌, List, [], ◌∷◌, ℕ, ◌+◌, ◌-◌, ◌*◌, ltb, leb, eqb, length, if◌then◌else◌}
 use Rattle.std.proofs.Math.Option.{Option, none, some}
-use Rattle.lent.specs.Bytes.{if◌then◌else◌, bytes, between, same, all}
+use Rattle.lent.specs.Bytes.{bytes, between, same, all}
 use Rattle.character_reference.specs.declared.Marker.{Marker}
 use Rattle.character_reference.specs.declared.Marker.TheVariants.{Named, Decimal, Hexadecimal}
 use Rattle.character_reference.specs.declared.Names.{Names}
@@ -24,7 +24,7 @@ code_of c = if is_replaced c then 0xFFFD else c
 
 -- 0 to 9, A to F and a to f; 16, no digit's value, for any other byte
 unfoldable pub digit_value : ℕ → ℕ
-digit_value b = if between 48 57 b then b - 48 else if between 65 70 b then b - 55 else if between 97 102 b then b - 87 else 16
+digit_value b = if between 48 57 b then b - 48 else (if between 65 70 b then b - 55 else (if between 97 102 b then b - 87 else 16))
 
 -- a digit of base 10 or 16
 abbrev pub is_digit_of : ℕ → ℕ → Bool

@@ -1,6 +1,5 @@
 -- How the code holds a table of names, and how it compares them: words of private functions alone. Assumes nothing.
-use Rattle.std.specs.Prelude.{Bool, true, false, ◌&&◌, List, [], ◌∷◌, ℕ, ◌+◌, ◌-◌, ◌<◌, ◌≤◌, ltb, leb, length, get_or, take, drop}
-use Rattle.lent.specs.Bytes.{if◌then◌else◌}
+use Rattle.std.specs.Prelude.{Bool, true, false, ◌&&◌, List, [], ◌∷◌, ℕ, ◌+◌, ◌-◌, ◌<◌, ◌≤◌, ltb, leb, length, get_or, take, drop, if◌then◌else◌}
 use Rattle.character_reference.specs.declared.Order.{Order}
 use Rattle.character_reference.specs.declared.Order.TheVariants.{Before, Same, Behind}
 
@@ -10,7 +9,7 @@ unfoldable pub order_of : List ℕ → List ℕ → Order
 order_of [] [] = Same
 order_of [] (y ∷ t) = Before
 order_of (x ∷ s) [] = Behind
-order_of (x ∷ s) (y ∷ t) = if ltb x y then Before else if ltb y x then Behind else order_of s t
+order_of (x ∷ s) (y ∷ t) = if ltb x y then Before else (if ltb y x then Behind else order_of s t)
 
 abbrev pub is_before : Order → Bool
 is_before Before = true

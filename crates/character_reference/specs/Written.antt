@@ -1,6 +1,5 @@
 -- The bytes that are written for a code. Assumes nothing.
-use Rattle.std.specs.Prelude.{List, ℕ, ltb}
-use Rattle.lent.specs.Bytes.{if◌then◌else◌}
+use Rattle.std.specs.Prelude.{List, ℕ, ltb, if◌then◌else◌}
 use Rattle.utf8.specs.Utf8.{char_of, replacement}
 
 -- past 10FFFF there is no character, and U+FFFD stands in

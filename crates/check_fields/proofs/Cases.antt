@@ -1,4 +1,5 @@
 -- The code's own cases. Assumes nothing.
+use Rattle.std.specs.Prelude.{if◌then◌else◌}
 use mathlib.Core.Path.{◌≡◌, refl, sym, ◌∙◌}
 use mathlib.Core.Bool.{Bool, true, false, not, ◌&&◌}
 use mathlib.Core.List.{List}
@@ -8,7 +9,6 @@ use native.Mathlib.Omega.{arith}
 use borrow.Author.Tests.{le-leb, lt-leb, eq-eqb, ne_eqb, eqb-true, eqb-false}
 use lib.Dec.{eqb, leb}
 use lib.ListN.{length}
-use Rattle.lent.specs.Bytes.{if◌then◌else◌}
 use Rattle.lent.proofs.Laws.{and_left, and_right}
 use Rattle.utf8.specs.Utf8.{inside}
 use Rattle.utf8.proofs.Walk.{past_end}

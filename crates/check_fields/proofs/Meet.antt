@@ -1,4 +1,5 @@
 -- What `fields_hold` decides: the rules of RULES R4, as facts. Assumes nothing.
+use Rattle.std.specs.Prelude.{if◌then◌else◌}
 use mathlib.Core.Path.{◌≡◌, refl, sym, ◌∙◌}
 use mathlib.Core.Bool.{Bool, true, false, not, ◌&&◌}
 use mathlib.Core.Logic.{◌↔◌}
@@ -11,7 +12,6 @@ use lib.Dec.{eqb, leb}
 use lib.ListN.{length}
 use lib.Pow.{pow_pos}
 use Rattle.lent.proofs.Laws.{and_left, and_right}
-use Rattle.lent.specs.Bytes.{if◌then◌else◌}
 use Rattle.utf8.specs.Utf8.{inside}
 use Rattle.event.specs.declared.Event.{Event}
 use Rattle.event.specs.Event.{is_enter, columns_of}

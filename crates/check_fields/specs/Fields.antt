@@ -1,7 +1,7 @@
 -- Refusal 3 (RULES R4): at the first event a field of which breaks its rule. Assumes nothing.
-use Rattle.std.specs.Prelude.{Bool, not, ◌&&◌, ◌||◌, List, ℕ, ◌+◌, ◌*◌, ◌/◌, ◌^◌, eqb, leb, length}
+use Rattle.std.specs.Prelude.{Bool, not, ◌&&◌, ◌||◌, List, ℕ, ◌+◌, ◌*◌, ◌/◌, ◌^◌, eqb, leb, length, if◌then◌else◌}
 use Rattle.std.proofs.Math.Option.{Option, none, some}
-use Rattle.lent.specs.Bytes.{if◌then◌else◌, between}
+use Rattle.lent.specs.Bytes.{between}
 use Rattle.utf8.specs.Utf8.{inside}
 use Rattle.event.specs.declared.Event.{Event}
 use Rattle.event.specs.Event.{is_enter, columns_of, events_of}
@@ -27,7 +27,7 @@ table_extra e = between 1 24 (columns_of e) && eqb (e.extra / 2 ^ (8 + 2 * colum
 
 -- extra is 0 except on a list and on a table
 unfoldable pub extra_holds : Event → Bool
-extra_holds e = if is_list e then list_extra e else if is_table e then table_extra e else eqb e.extra 0
+extra_holds e = if is_list e then list_extra e else (if is_table e then table_extra e else eqb e.extra 0)
 
 -- from, to, before and after are zero
 unfoldable pub enter_holds : Event → Bool

@@ -1,6 +1,6 @@
 -- Refusal 7 (RULES R7.5): links, images and calls whose label no definition has. Assumes nothing.
-use Rattle.std.specs.Prelude.{Bool, true, not, ◌&&◌, List, [], ◌∷◌, ℕ, ◌+◌, ◌-◌, eqb, leb, take, drop}
-use Rattle.lent.specs.Bytes.{if◌then◌else◌, listed}
+use Rattle.std.specs.Prelude.{Bool, true, not, ◌&&◌, List, [], ◌∷◌, ℕ, ◌+◌, ◌-◌, eqb, leb, take, drop, if◌then◌else◌}
+use Rattle.lent.specs.Bytes.{listed}
 use Rattle.event.specs.declared.Event.{Event}
 use Rattle.event.specs.Event.{is_enter, named, events_of}
 use Rattle.normalize_identifier.specs.Identity.{identity_of}
@@ -21,8 +21,8 @@ slice text from to = take (to - from) (drop from text)
 unfoldable pub label_of : ℕ → Event → Part
 label_of n e =
     if is_enter e then Nothing
-    else if eqb e.name n then Slice e.from.0 e.to.0
-    else Nothing
+    else (if eqb e.name n then Slice e.from.0 e.to.0
+    else Nothing)
 
 -- the identities of the labels of the definitions (n is 54) or of the footnote definitions (65)
 unfoldable pub identities : ℕ → List ℕ → List Event → List (List ℕ)
@@ -36,9 +36,9 @@ identities n text (e ∷ es) = elim (label_of n e) [ Slice from to ↦ identity_
 unfoldable pub turn_of : (n at depth : ℕ) → Event → Turn
 turn_of n at depth e =
     if leb e.name 4 then On depth
-    else if is_enter e then On (depth + 1)
-    else if eqb depth 0 then Out
-    else if eqb depth at && eqb e.name n then Own e.from.0 e.to.0
+    else (if is_enter e then On (depth + 1)
+    else (if eqb depth 0 then Out
+    else (if eqb depth))) at && eqb e.name n then Own e.from.0 e.to.0
     else On (depth - 1)
 
 -- the slice of an element's own part n: es are the events behind its enter, or behind what was passed
@@ -69,9 +69,9 @@ is_defined text ids Nothing = true
 unfoldable pub label_holds : List ℕ → List Event → Event → List Event → Bool
 label_holds text events e behind =
     if not (is_enter e) then true
-    else if named (45 ∷ 46 ∷ []) e then is_defined text (identities 54 text events) (sought_of behind)
-    else if named (62 ∷ []) e then is_defined text (identities 65 text events) (sought_of behind)
-    else true
+    else (if named (45 ∷ 46 ∷ []) e then is_defined text (identities 54 text events) (sought_of behind)
+    else (if named (62 ∷ []) e then is_defined text (identities 65 text events) (sought_of behind)
+    else true))
 
 -- the first of the events from i on that does not hold
 unfoldable pub undefined_from : List ℕ → List Event → ℕ → List Event → Labels

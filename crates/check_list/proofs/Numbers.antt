@@ -1,9 +1,9 @@
 -- The answer's number and place, by the first rule that is broken; and that two results that meet the promise are equal. Assumes nothing.
+use Rattle.std.specs.Prelude.{if◌then◌else◌}
 use mathlib.Core.Path.{◌≡◌, refl, sym, ap, ◌∙◌}
 use mathlib.Core.Bool.{Bool, true, false, not}
 use mathlib.Core.List.{List}
 use Prim.Native.Nat.{ℕ}
-use Rattle.lent.specs.Bytes.{if◌then◌else◌}
 use Rattle.utf8.specs.Utf8.{is_utf8}
 use Rattle.check_nesting.specs.declared.Nesting.{Nesting}
 use Rattle.check_nesting.specs.declared.Nesting.TheVariants as N
@@ -33,7 +33,7 @@ module _ {A : Type 0} (f : Checked → A) where
   abbrev chosen_by : Bool → Bool → Fields → Nesting → FirstWrong → FirstWrong → Labels → A
   chosen_by x y a b c d e =
       if x then f WrongLength
-      else if y then f NotUtf8
+      else (if y then f NotUtf8
       else
       elim a [
         | F.At i ↦ f (Field (event i))
@@ -47,10 +47,10 @@ module _ {A : Type 0} (f : Checked → A) where
             ]
           ]
         ]
-      ]
+      ])
 
   by-stairs : (x y : Bool) (a : Fields) (b : Nesting) (c d : FirstWrong) (e : Labels)
-      → f (if x then WrongLength else if y then NotUtf8 else after_fields a (after_nesting b (after_slices c (after_counts d (after_labels e Yes))))) ≡ chosen_by x y a b c d e
+      → f (if x then WrongLength else (if y then NotUtf8 else after_fields a (after_nesting b (after_slices c (after_counts d (after_labels e Yes)))))) ≡ chosen_by x y a b c d e
   by-stairs true y a b c d e = refl
   by-stairs false true a b c d e = refl
   by-stairs false false (F.At i) b c d e = refl

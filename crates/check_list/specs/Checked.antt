@@ -1,6 +1,5 @@
 -- The checker's answer: the lowest number whose rule is broken, at its earliest event (RULES R7.3); number and place for each. Assumes nothing.
-use Rattle.std.specs.Prelude.{◌≡◌, Bool, not, ◌&&◌, List, ℕ, ◌*◌, ◌%◌, eqb, leb, length}
-use Rattle.lent.specs.Bytes.{if◌then◌else◌}
+use Rattle.std.specs.Prelude.{◌≡◌, Bool, not, ◌&&◌, List, ℕ, ◌*◌, ◌%◌, eqb, leb, length, if◌then◌else◌}
 use Rattle.utf8.specs.Utf8.{is_utf8}
 use Rattle.event.specs.declared.EventIndex.{EventIndex}
 use Rattle.event.specs.Event.{record_size}
@@ -52,7 +51,7 @@ sizes_hold text events = leb (length text) 64000 && leb (length events) (record_
 unfoldable pub choose : {A : Type 0} → (text events : List ℕ) → (sizes utf8 : A) → (field nested slice count label : ℕ → A) → (passed : A) → A
 choose text events sizes utf8 field nested slice count label passed =
     if not (sizes_hold text events) then sizes
-    else if not (is_utf8 text) then utf8
+    else (if not (is_utf8 text) then utf8
     else
     elim (fields_of text events) [
       | F.At i ↦ field i
@@ -66,7 +65,7 @@ choose text events sizes utf8 field nested slice count label passed =
           ]
         ]
       ]
-    ]
+    ])
 
 unfoldable pub check_of : (text events : List ℕ) → Checked
 check_of text events = choose text events WrongLength NotUtf8 (λ i. Field (event i)) (λ i. Nested (event i)) (λ i. Slice (event i)) (λ i. Count (event i)) (λ i. Label (event i)) Yes

@@ -1,6 +1,5 @@
 -- The checker's answer from a number on, as the code goes through it: no part of a promise. Assumes nothing.
-use Rattle.std.specs.Prelude.{not, List, ℕ}
-use Rattle.lent.specs.Bytes.{if◌then◌else◌}
+use Rattle.std.specs.Prelude.{not, List, ℕ, if◌then◌else◌}
 use Rattle.utf8.specs.Utf8.{is_utf8}
 use Rattle.check_nesting.specs.declared.Nesting.{Nesting}
 use Rattle.check_nesting.specs.declared.Nesting.TheVariants as N
@@ -58,5 +57,5 @@ from_fields text events = after_fields (fields_of text events) (from_nesting tex
 unfoldable pub stairs_of : (text events : List ℕ) → Checked
 stairs_of text events =
     if not (sizes_hold text events) then WrongLength
-    else if not (is_utf8 text) then NotUtf8
-    else from_fields text events
+    else (if not (is_utf8 text) then NotUtf8
+    else from_fields text events)

@@ -1,11 +1,12 @@
 -- What the items ask for, `next` takes, since no child may be taken in two ways. Assumes nothing.
+use Rattle.std.specs.Prelude.{if◌then◌else◌}
 use mathlib.Core.Path.{◌≡◌, refl, sym, ap, ◌∙◌}
 use mathlib.Core.Bool.{Bool, true, false, not, ◌&&◌, ◌||◌, or-true, false≢true}
 use mathlib.Core.List.{List, [], ◌∷◌}
 use Prim.Native.Nat.{ℕ}
 use lib.Dec.{eqb}
 use borrow.Author.Tests.{eq-eqb, eqb-true, not-true}
-use Rattle.lent.specs.Bytes.{if◌then◌else◌, one_of, all, mapped}
+use Rattle.lent.specs.Bytes.{one_of, all, mapped}
 use Rattle.lent.proofs.Laws.{and_left, and_right}
 use Rattle.check_nesting.specs.Grammar.{Item, one, opt, any, chain, name_of, Rule, rules, holds_by, holds}
 use Rattle.check_nesting.specs.Nests.{Takes, nothing, one-taken, opt_none, opt-taken, any_none, any-taken, chain-none, chain-taken}

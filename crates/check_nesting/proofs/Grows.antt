@@ -1,4 +1,5 @@
 -- A list that passes nests: its forest grows tag by tag. Assumes nothing.
+use Rattle.std.specs.Prelude.{if◌then◌else◌}
 use mathlib.Core.Path.{◌≡◌, refl, sym, ap, ◌∙◌}
 use mathlib.Core.Logic.{◌↔◌}
 use mathlib.Core.Bool.{Bool, true, false}
@@ -8,7 +9,6 @@ use native.Mathlib.Omega.{arith}
 use lib.Dec.{leb}
 use lib.ListN.{length}
 use borrow.Author.Tests.{leb-true, leb-false}
-use Rattle.lent.specs.Bytes.{if◌then◌else◌}
 use Rattle.check_nesting.specs.declared.Nesting.TheVariants.{Yes, At}
 use Rattle.check_nesting.specs.Grammar.{Item, holds, whole}
 use Rattle.check_nesting.specs.Tag.{Tag, enter, exit}
@@ -32,7 +32,7 @@ unfolding turn
 way q n = pick (leb n 2) (leb n 4) (next q n) refl refl refl
   where
     pick : (a b : Bool) (t : Taken) → leb n 2 ≡ a → leb n 4 ≡ b → next q n ≡ t
-        → Way q n (if a then entered (rest q) (rest q) else if b then entered shut (rest q) else P.child t)
+        → Way q n (if a then entered (rest q) (rest q) else (if b then entered shut (rest q) else P.child t))
     pick true b t x y z = by-through (leb-true n 2 x)
     pick false true t x y z = by-empty (leb-false n 2 x) (leb-true n 4 y)
     pick false false refuse x y z = by-none

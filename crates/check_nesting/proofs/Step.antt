@@ -1,4 +1,5 @@
 -- The pass, tag by tag: where it stops, and each way to go on. Assumes nothing.
+use Rattle.std.specs.Prelude.{if◌then◌else◌}
 use mathlib.Core.Path.{◌≡◌, refl, ap}
 use mathlib.Core.Bool.{Bool, true, false, cond, ◌&&◌, ◌||◌}
 use mathlib.Core.List.{List, [], ◌∷◌}
@@ -8,7 +9,6 @@ use native.Mathlib.Omega.{arith}
 use lib.ListN.{length}
 use lib.Dec.{eqb, leb}
 use borrow.Author.Tests.{eq-eqb, le-leb, lt-leb, eqb-true, leb-true, leb-false}
-use Rattle.lent.specs.Bytes.{if◌then◌else◌}
 use Rattle.check_nesting.specs.declared.Nesting.TheVariants.{Yes, At}
 use Rattle.check_nesting.specs.Tag.{Tag, enter, exit, open_behind}
 use Rattle.check_nesting.specs.Pass as P

@@ -1,7 +1,7 @@
 -- What each element holds, in order (RULES R3.4). Assumes nothing.
-use Rattle.std.specs.Prelude.{List, [], ◌∷◌, ℕ, ◌+◌, ◌-◌, ltb, get_or}
+use Rattle.std.specs.Prelude.{List, [], ◌∷◌, ℕ, ◌+◌, ◌-◌, ltb, get_or, if◌then◌else◌}
 pub use Rattle.event.specs.Event.{name_count}
-use Rattle.lent.specs.Bytes.{if◌then◌else◌, one_of}
+use Rattle.lent.specs.Bytes.{one_of}
 
 -- one of these kinds; [one of them]; any number of them; and chain (9 ∷ 10 ∷ []) is [9 [10]]
 pub data Item : Type 0 where

@@ -1,7 +1,6 @@
 -- The pass for 4: the list nests, or the event at which it does not. Assumes nothing.
-use Rattle.std.specs.Prelude.{Bool, true, false, ◌&&◌, ◌||◌, List, [], ◌∷◌, ℕ, ◌+◌, eqb, leb, length}
+use Rattle.std.specs.Prelude.{Bool, true, false, ◌&&◌, ◌||◌, List, [], ◌∷◌, ℕ, ◌+◌, eqb, leb, length, if◌then◌else◌}
 use Rattle.std.proofs.Math.Option.{Option, none, some}
-use Rattle.lent.specs.Bytes.{if◌then◌else◌}
 use Rattle.check_nesting.specs.declared.Nesting.{Nesting}
 use Rattle.check_nesting.specs.declared.Nesting.TheVariants.{Yes, At}
 use Rattle.check_nesting.specs.Grammar.{Item, one, opt, any, chain, name_of, holds, whole}
@@ -57,8 +56,8 @@ unfoldable pub turn : Rest → ℕ → Turn
 turn shut n = refused
 turn (rest is) n =
     if leb n 2 then entered (rest is) (rest is)
-    else if leb n 4 then entered shut (rest is)
-    else child (next is n)
+    else (if leb n 4 then entered shut (rest is)
+    else child (next is n))
 
 abbrev pub may_end : Rest → Bool
 may_end shut = true

@@ -1,7 +1,6 @@
 -- The code's tables, in which what may come next is a number: words that only the contracts of private functions use. Assumes nothing.
-use Rattle.std.specs.Prelude.{◌≡◌, Bool, true, false, List, [], ◌∷◌, ℕ, ◌+◌, ◌*◌, ◌≤◌, ◌<◌, eqb, leb, length, get_or}
+use Rattle.std.specs.Prelude.{◌≡◌, Bool, true, false, List, [], ◌∷◌, ℕ, ◌+◌, ◌*◌, ◌≤◌, ◌<◌, eqb, leb, length, get_or, if◌then◌else◌}
 use Rattle.std.proofs.Math.Option.{Option, none, some}
-use Rattle.lent.specs.Bytes.{if◌then◌else◌}
 use Rattle.check_nesting.specs.declared.Entry.{Entry}
 use Rattle.check_nesting.specs.declared.Entry.TheVariants.{Refused, Into}
 use Rattle.check_nesting.specs.declared.Exit.{Exit}
@@ -94,7 +93,7 @@ entry_at entries q at = if eqb (get_or entries at 0) q then Into (get_or entries
 -- what is looked up
 abbrev pub looked : List ℕ → List ℕ → ℕ → ℕ → Entry
 looked states entries q n =
-    if leb n 4 then (if eqb q 0 then Refused else if leb n 2 then Into q q else Into 0 q)
+    if leb n 4 then (if eqb q 0 then Refused else (if leb n 2 then Into q q else Into 0 q))
     else entry_at entries q (place_of states q n)
 
 -- 1 where nothing more has to come

@@ -1,6 +1,5 @@
 -- What the pass for 4 sees of an event: enter or exit, and the name. Assumes nothing.
-use Rattle.std.specs.Prelude.{List, [], ◌∷◌, ℕ, zero, suc, ◌-◌, eqb, drop, get_or}
-use Rattle.lent.specs.Bytes.{if◌then◌else◌}
+use Rattle.std.specs.Prelude.{List, [], ◌∷◌, ℕ, zero, suc, ◌-◌, eqb, drop, get_or, if◌then◌else◌}
 use Rattle.event.specs.Event.{record_size, count_of}
 
 pub data Tag : Type 0 where

@@ -1,4 +1,5 @@
 -- Rule 6 as the pass has it and as a reader has it. Assumes nothing.
+use Rattle.std.specs.Prelude.{if◌then◌else◌}
 use mathlib.Core.Path.{◌≡◌, refl, sym, ap, ◌∙◌}
 use mathlib.Core.Bool.{Bool, true, false}
 use mathlib.Core.Logic.{◌↔◌}
@@ -10,7 +11,6 @@ use native.Mathlib.Omega.{arith}
 use borrow.Author.Tests.{ne_eqb, lt-ltb}
 use lib.Dec.{eqb}
 use lib.ListN.{length, take}
-use Rattle.lent.specs.Bytes.{if◌then◌else◌}
 use Rattle.event.specs.declared.Event.{Event}
 use Rattle.event.specs.Event.{is_enter, events_of}
 use Rattle.check_slices.specs.declared.Counts.{Counts}

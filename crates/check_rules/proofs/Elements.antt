@@ -1,4 +1,5 @@
 -- A link's own parts, by the tree and by the walk that counts what is open. Assumes nothing.
+use Rattle.std.specs.Prelude.{if◌then◌else◌}
 use mathlib.Core.Path.{◌≡◌, refl, sym, ◌∙◌}
 use mathlib.Core.Bool.{Bool, true, false, ◌&&◌}
 use mathlib.Core.List.{List, ◌∷◌}
@@ -6,7 +7,6 @@ use Prim.Native.Nat.{ℕ, ◌+◌, ◌-◌, ◌≤◌}
 use native.Mathlib.Omega.{arith}
 use borrow.Author.Tests.{ne_eqb, eq-eqb}
 use lib.Dec.{eqb, leb}
-use Rattle.lent.specs.Bytes.{if◌then◌else◌}
 use Rattle.event.specs.declared.Event.{Event}
 use Rattle.event.specs.Event.{is_enter}
 use Rattle.check_labels.specs.declared.Part.{Part}
@@ -100,7 +100,7 @@ module _ (n : ℕ) where
     where
       go : (t : Bool) → found n (d + 1) d f ≡ child_of n f → found n (d + 1) (d + 1) f ≡ Nothing → found n (d + 1) d g ≡ child_of n g
           → (if t then or_else (found n (d + 1) d f) (found n (d + 1) d g) else or_else (found n (d + 1) (d + 1) f) (if eqb (d + 1) (d + 1) && eqb a.name n then Slice z.from.0 z.to.0 else found n (d + 1) d g))
-          ≡ (if t then or_else (child_of n f) (child_of n g) else if eqb a.name n then Slice z.from.0 z.to.0 else child_of n g)
+          ≡ (if t then or_else (child_of n f) (child_of n g) else (if eqb a.name n then Slice z.from.0 z.to.0 else child_of n g))
       go true u v w = rw (u, w)
       go false u v w = rw (v, eq-eqb (d + 1) (d + 1) refl, w)
 

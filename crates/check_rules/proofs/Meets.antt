@@ -1,4 +1,5 @@
 -- The checker says yes exactly when the rules are met; else the lowest number, and its first event. Assumes nothing.
+use Rattle.std.specs.Prelude.{if◌then◌else◌}
 use mathlib.Core.Path.{◌≡◌, refl, sym, ◌∙◌}
 use mathlib.Core.Bool.{Bool, true, false, not, ◌&&◌}
 use mathlib.Core.Logic.{◌↔◌}
@@ -9,7 +10,6 @@ use native.Mathlib.Omega.{arith}
 use borrow.Author.Tests.{leb-true, le-leb, eqb-true}
 use lib.Dec.{eqb, leb}
 use lib.ListN.{length}
-use Rattle.lent.specs.Bytes.{if◌then◌else◌}
 use Rattle.lent.proofs.Laws.{and_left, and_right}
 use Rattle.lent.proofs.Computed.{is_true}
 use Rattle.utf8.specs.Utf8.{is_utf8, Characters}
@@ -152,7 +152,7 @@ module _ (text events : List ℕ) where
   unfolding stairs_of from_fields
   says = rw (← stairs text events) (go (sizes_hold text events) refl (is_utf8 text) refl)
     where
-      go : (a : Bool) → sizes_hold text events ≡ a → (b : Bool) → is_utf8 text ≡ b → Says text events (if not a then WrongLength else if not b then NotUtf8 else from_fields text events)
+      go : (a : Bool) → sizes_hold text events ≡ a → (b : Bool) → is_utf8 text ≡ b → Says text events (if not a then WrongLength else (if not b then NotUtf8 else from_fields text events))
       go false p b q = first (λ m. clash (sizes-hold m) p)
       go true p false q = second (sizes-meet p) (λ c. clash (is_true (is_utf8 text) ((characters text).1 c)) q)
       go true p true q = say-fields (sizes-meet p) ((characters text).0 (rw q tt)) (fields_of text events) refl

@@ -1,10 +1,10 @@
 -- The checker's answer is the only one that says what is so. Assumes nothing.
+use Rattle.std.specs.Prelude.{if◌then◌else◌}
 use mathlib.Core.Path.{◌≡◌, refl, sym, ap, ◌∙◌}
 use mathlib.Core.Bool.{Bool, true, false, not}
 use mathlib.Core.Logic.{◌↔◌}
 use mathlib.Core.List.{List}
 use Prim.Native.Nat.{ℕ, ◌+◌}
-use Rattle.lent.specs.Bytes.{if◌then◌else◌}
 use Rattle.lent.proofs.Computed.{is_true}
 use Rattle.utf8.specs.Utf8.{is_utf8, Characters}
 use Rattle.utf8.proofs.Characters.{characters}
@@ -110,7 +110,7 @@ module _ (text events : List ℕ) where
   unfolding stairs_of
   too_long x = go (sizes_hold text events) refl ∙ stairs text events
     where
-      go : (a : Bool) → sizes_hold text events ≡ a → WrongLength ≡ (if not a then WrongLength else if not (is_utf8 text) then NotUtf8 else from_fields text events)
+      go : (a : Bool) → sizes_hold text events ≡ a → WrongLength ≡ (if not a then WrongLength else (if not (is_utf8 text) then NotUtf8 else from_fields text events))
       go false p = refl
       go true p = absurd (x (sizes-meet text events p))
 

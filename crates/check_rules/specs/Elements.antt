@@ -1,6 +1,5 @@
 -- An element of a list, as a tree over its events: what it holds, and what it seeks. Assumes nothing.
-use Rattle.std.specs.Prelude.{◌≡◌, true, false, List, ◌∷◌, ℕ, eqb, leb, drop}
-use Rattle.lent.specs.Bytes.{if◌then◌else◌}
+use Rattle.std.specs.Prelude.{◌≡◌, true, false, List, ◌∷◌, ℕ, eqb, leb, drop, if◌then◌else◌}
 use Rattle.event.specs.declared.Event.{Event}
 use Rattle.event.specs.Event.{is_enter}
 use Rattle.check_labels.specs.declared.Part.{Part}
@@ -38,8 +37,8 @@ abbrev pub child_of : ℕ → Forest → Part
 child_of n nil = Nothing
 child_of n (element a f z g) =
     if leb a.name 4 then or_else (child_of n f) (child_of n g)
-    else if eqb a.name n then Slice z.from.0 z.to.0
-    else child_of n g
+    else (if eqb a.name n then Slice z.from.0 z.to.0
+    else child_of n g)
 
 -- and of the first n that a child holds
 abbrev pub grandchild_of : ℕ → Forest → Part

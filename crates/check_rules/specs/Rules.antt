@@ -1,6 +1,5 @@
 -- The rules for a text and its events (RULES R3 to R8), as a reader has them: facts about events, their places and elements, and no pass. Assumes nothing.
-use Rattle.std.specs.Prelude.{◌≡◌, Bool, true, false, ◌||◌, List, [], ◌∷◌, ◌++◌, ℕ, ◌+◌, ◌%◌, ◌≤◌, ◌<◌, eqb, length, take}
-use Rattle.lent.specs.Bytes.{if◌then◌else◌}
+use Rattle.std.specs.Prelude.{◌≡◌, Bool, true, false, ◌||◌, List, [], ◌∷◌, ◌++◌, ℕ, ◌+◌, ◌%◌, ◌≤◌, ◌<◌, eqb, length, take, if◌then◌else◌}
 use Rattle.utf8.specs.Utf8.{Characters}
 use Rattle.event.specs.declared.Event.{Event}
 use Rattle.event.specs.Event.{record_size, count_of, is_enter, named, event_at, events_of}

@@ -1,4 +1,5 @@
 -- The laws of the passes for 5 and 6. Assumes nothing.
+use Rattle.std.specs.Prelude.{if◌then◌else◌}
 use mathlib.Core.Path.{◌≡◌, sym, ◌∙◌}
 use mathlib.Core.Bool.{Bool, true, false, not}
 use mathlib.Core.List.{List, ◌∷◌}
@@ -7,7 +8,6 @@ use native.Mathlib.Omega.{arith}
 use borrow.Author.Tests.{ne_eqb, not-true, not-false, ltb-true}
 use lib.Dec.{eqb, ltb}
 use lib.ListN.{length, drop}
-use Rattle.lent.specs.Bytes.{if◌then◌else◌}
 use Rattle.event.specs.declared.Event.{Event}
 use Rattle.event.specs.Event.{is_enter, event_at, events_of}
 use Rattle.event.proofs.Laws.{events-next, events-end}
@@ -116,8 +116,8 @@ module _ (e : Event) (x : Bool) (p : x ≡ is_enter e) where
 -- ---- where the counts hold, they stay few
 
 few-by : (t d f : Bool) (n : Counts) → Few n
-    → (if t then (if d then ltb n.definitions 128 else if f then ltb n.footnotes 64 else true) else true) ≡ true
-    → Few (if t then (if d then record { definitions = n.definitions + 1; footnotes = n.footnotes } else if f then record { definitions = n.definitions; footnotes = n.footnotes + 1 } else n) else n)
+    → (if t then (if d then ltb n.definitions 128 else (if f then ltb n.footnotes 64 else true)) else true) ≡ true
+    → Few (if t then (if d then record { definitions = n.definitions + 1; footnotes = n.footnotes } else (if f then record { definitions = n.definitions; footnotes = n.footnotes + 1 } else n)) else n)
 few-by false d f n few p = few
 few-by true true f n few p = record { definitions = omega (arith, ltb-true n.definitions 128 p); footnotes = few.footnotes }
 few-by true false true n few p = record { definitions = few.definitions; footnotes = omega (arith, ltb-true n.footnotes 64 p) }

@@ -1,6 +1,5 @@
 -- Refusal 6 (RULES R7.4): at most 128 definitions and 64 footnote definitions. Assumes nothing.
-use Rattle.std.specs.Prelude.{Bool, true, List, ℕ, ◌+◌, ◌≤◌, eqb, ltb}
-use Rattle.lent.specs.Bytes.{if◌then◌else◌}
+use Rattle.std.specs.Prelude.{Bool, true, List, ℕ, ◌+◌, ◌≤◌, eqb, ltb, if◌then◌else◌}
 use Rattle.event.specs.declared.Event.{Event}
 use Rattle.event.specs.Event.{is_enter, events_of}
 use Rattle.check_slices.specs.declared.Counts.{Counts}
@@ -20,8 +19,8 @@ unfoldable pub counted_behind : Counts → Event → Counts
 counted_behind n e =
     if is_enter e then
     (if eqb e.name 53 then record { definitions = n.definitions + 1; footnotes = n.footnotes }
-    else if eqb e.name 63 then record { definitions = n.definitions; footnotes = n.footnotes + 1 }
-    else n)
+    else (if eqb e.name 63 then record { definitions = n.definitions; footnotes = n.footnotes + 1 }
+    else n))
     else n
 
 -- no 129th definition, and no 65th footnote definition
@@ -29,8 +28,8 @@ unfoldable pub count_holds : Counts → Event → Bool
 count_holds n e =
     if is_enter e then
     (if eqb e.name 53 then ltb n.definitions 128
-    else if eqb e.name 63 then ltb n.footnotes 64
-    else true)
+    else (if eqb e.name 63 then ltb n.footnotes 64
+    else true))
     else true
 
 -- yes, or the first enter that is one too many

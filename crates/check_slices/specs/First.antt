@@ -1,6 +1,5 @@
 -- The first event that breaks a rule. Assumes nothing.
-use Rattle.std.specs.Prelude.{Bool, List, [], ◌∷◌, ℕ, ◌+◌}
-use Rattle.lent.specs.Bytes.{if◌then◌else◌}
+use Rattle.std.specs.Prelude.{Bool, List, [], ◌∷◌, ℕ, ◌+◌, if◌then◌else◌}
 use Rattle.event.specs.declared.Event.{Event}
 use Rattle.check_slices.specs.declared.FirstWrong.{FirstWrong}
 use Rattle.check_slices.specs.declared.FirstWrong.TheVariants.{Yes, At}

@@ -1,6 +1,6 @@
 -- Refusal 5 (RULES R5): what the slice of an exit has to be. Assumes nothing.
-use Rattle.std.specs.Prelude.{Bool, true, false, ◌&&◌, ◌||◌, List, [], ◌∷◌, ℕ, ◌-◌, eqb, length, take, drop}
-use Rattle.lent.specs.Bytes.{if◌then◌else◌, bytes, between, one_of, all, listed, is_digit}
+use Rattle.std.specs.Prelude.{Bool, true, false, ◌&&◌, ◌||◌, List, [], ◌∷◌, ℕ, ◌-◌, eqb, length, take, drop, if◌then◌else◌}
+use Rattle.lent.specs.Bytes.{bytes, between, one_of, all, listed, is_digit}
 use Rattle.event.specs.declared.Event.{Event}
 use Rattle.event.specs.Event.{is_enter, events_of}
 use Rattle.character_reference.specs.declared.Marker.{Marker}
@@ -47,11 +47,11 @@ with_marker m seen = record { sequence = seen.sequence; marker = m }
 unfoldable pub seen_behind : Seen → Event → Seen
 seen_behind seen e =
     if is_enter e then (if eqb e.name 13 then with_sequence false seen else seen)
-    else if eqb e.name 14 then with_sequence true seen
-    else if eqb e.name 8 then with_marker Named seen
-    else if eqb e.name 9 then with_marker Decimal seen
-    else if eqb e.name 10 then with_marker Hexadecimal seen
-    else seen
+    else (if eqb e.name 14 then with_sequence true seen
+    else (if eqb e.name 8 then with_marker Named seen
+    else (if eqb e.name 9 then with_marker Decimal seen
+    else (if eqb e.name 10 then with_marker Hexadecimal seen
+    else seen))))
 
 -- ---- the answer
 
@@ -59,12 +59,12 @@ seen_behind seen e =
 unfoldable pub slice_holds : Seen → (name : ℕ) → (slice : List ℕ) → Bool
 slice_holds seen name s =
     if eqb name 3 then is_ending s
-    else if eqb name 4 then is_ending s
-    else if eqb name 26 then is_item_value s
-    else if eqb name 14 then seen.sequence || is_level s
-    else if eqb name 18 then is_underline s
-    else if eqb name 11 then is_some (reference_of seen.marker s)
-    else true
+    else (if eqb name 4 then is_ending s
+    else (if eqb name 26 then is_item_value s
+    else (if eqb name 14 then seen.sequence))) || is_level s
+    else (if eqb name 18 then is_underline s
+    else (if eqb name 11 then is_some (reference_of seen.marker s)
+    else true))
 
 -- the bytes from..to; as many of them as there are
 abbrev pub part : List ℕ → (from to : ℕ) → List ℕ

@@ -1,4 +1,5 @@
 -- An arm of a group of names, and the names that have none. Assumes nothing.
+use Rattle.std.specs.Prelude.{if◌then◌else◌}
 use mathlib.Core.Path.{◌≡◌, refl, sym, ap, ◌∙◌}
 use mathlib.Core.Logic.{⊎_elim}
 use mathlib.Core.Bool.{Bool, true, false, not, ◌||◌}
@@ -8,7 +9,7 @@ use native.Mathlib.Nat.{le_of_suc-le-suc, not-suc-le-zero, eq-or-lt_of_le}
 use borrow.Author.Tests.{le-ltb, ne_eqb}
 use lib.Dec.{eqb, ltb}
 use lib.ListN.{get_or}
-use Rattle.lent.specs.Bytes.{if◌then◌else◌, one_of}
+use Rattle.lent.specs.Bytes.{one_of}
 use Rattle.event.specs.declared.Event.{Event}
 use Rattle.machine.specs.Turn.{Turn}
 use Rattle.machine.specs.Command.{Command, nothing}

@@ -1,4 +1,5 @@
 -- What the code of `encode_byte` goes by, and the laws that callers cite. Assumes nothing.
+use Rattle.std.specs.Prelude.{if◌then◌else◌}
 use mathlib.Core.Path.{◌≡◌, refl, sym, ◌∙◌}
 use mathlib.Core.Bool.{Bool, true, false, ◌||◌, or-false}
 use mathlib.Core.List.{List, [], ◌∷◌}
@@ -8,7 +9,7 @@ use borrow.Author.Tests.{ne_eqb}
 use lib.Dec.{eqb}
 use mir.Syntax.{w8}
 use mir.Val.{Fits}
-use Rattle.lent.specs.Bytes.{if◌then◌else◌, bytes, has_bit}
+use Rattle.lent.specs.Bytes.{bytes, has_bit}
 use Rattle.lent.proofs.Computed.{agree}
 use Rattle.lent.proofs.Laws.{or_left, or_right}
 use Rattle.utf8.specs.Utf8.{replacement}
@@ -31,7 +32,7 @@ off b z = rw (ne_eqb b 0 z)
 
 -- the tests, as Bools
 stays : (z q a l g : Bool) (r x : List ℕ) → (z || (q || a || l || g)) ≡ false
-    → (if z then r else if a then bytes "&amp;" else if l then bytes "&lt;" else if g then bytes "&gt;" else if q then bytes "&quot;" else x) ≡ x
+    → (if z then r else (if a then bytes "&amp;" else (if l then bytes "&lt;" else (if g then bytes "&gt;" else (if q then bytes "&quot;" else x))))) ≡ x
 stays z q a l g r x p =
     let four = or_right z (q || a || l || g) p in
     let three = or_left (q || a || l) g four in
@@ -58,8 +59,8 @@ encode-plain HtmlAndApostrophes b p = plain-apostrophe b (or_left (html b) (eqb 
 
 -- with HTML one of five, so that the apostrophe does not matter
 special-html : (z q a l g : Bool) (r x y : List ℕ) → (z || (q || a || l || g)) ≡ true
-    → (if z then r else if a then bytes "&amp;" else if l then bytes "&lt;" else if g then bytes "&gt;" else if q then bytes "&quot;" else x)
-    ≡ (if z then r else if a then bytes "&amp;" else if l then bytes "&lt;" else if g then bytes "&gt;" else if q then bytes "&quot;" else y)
+    → (if z then r else (if a then bytes "&amp;" else (if l then bytes "&lt;" else (if g then bytes "&gt;" else (if q then bytes "&quot;" else x)))))
+    ≡ (if z then r else (if a then bytes "&amp;" else (if l then bytes "&lt;" else (if g then bytes "&gt;" else (if q then bytes "&quot;" else y)))))
 special-html true q a l g r x y p = refl
 special-html false q true l g r x y p = refl
 special-html false q false true g r x y p = refl

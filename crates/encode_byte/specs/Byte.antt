@@ -1,6 +1,6 @@
 -- One byte encoded for HTML (`encode.rs`). Assumes nothing.
-use Rattle.std.specs.Prelude.{Bool, true, false, not, ◌&&◌, List, [], ◌∷◌, ℕ, eqb}
-use Rattle.lent.specs.Bytes.{if◌then◌else◌, bytes}
+use Rattle.std.specs.Prelude.{Bool, true, false, not, ◌&&◌, List, [], ◌∷◌, ℕ, eqb, if◌then◌else◌}
+use Rattle.lent.specs.Bytes.{bytes}
 use Rattle.utf8.specs.Utf8.{replacement}
 use Rattle.encode_byte.specs.declared.Escaping.{Escaping}
 use Rattle.encode_byte.specs.declared.Escaping.TheVariants.{Off, Html, HtmlAndApostrophes}
@@ -25,10 +25,10 @@ escapes_apostrophes HtmlAndApostrophes = true
 unfoldable pub encode_byte : Escaping → ℕ → List ℕ
 encode_byte escaping b =
     if eqb b 0 then replacement
-    else if not (escapes_html escaping) then b ∷ []
-    else if eqb b 38 then bytes "&amp;"
-    else if eqb b 60 then bytes "&lt;"
-    else if eqb b 62 then bytes "&gt;"
-    else if eqb b 34 then bytes "&quot;"
-    else if escapes_apostrophes escaping && eqb b 39 then bytes "&#39;"
-    else b ∷ []
+    else (if not (escapes_html escaping) then b ∷ []
+    else (if eqb b 38 then bytes "&amp;"
+    else (if eqb b 60 then bytes "&lt;"
+    else (if eqb b 62 then bytes "&gt;"
+    else (if eqb b 34 then bytes "&quot;"
+    else (if escapes_apostrophes escaping && eqb b 39 then bytes "&#39;"
+    else b ∷ []))))))

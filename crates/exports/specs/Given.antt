@@ -1,6 +1,5 @@
 -- What C hands over: options as bits of a number. Assumes nothing.
-use Rattle.std.specs.Prelude.{Bool, ℕ, ◌/◌, ◌%◌, eqb}
-use Rattle.lent.specs.Bytes.{if◌then◌else◌}
+use Rattle.std.specs.Prelude.{Bool, ℕ, ◌/◌, ◌%◌, eqb, if◌then◌else◌}
 use Rattle.character_reference.specs.declared.Names.{Names}
 use Rattle.character_reference.specs.declared.Names.TheVariants.{Html4, Html5}
 use Rattle.machine.specs.declared.Ending.{Ending}
@@ -15,7 +14,7 @@ has_bit bit options = eqb (options / bit % 2) 1
 
 -- bits 8 and 9: 0 LF, 1 CR, 2 CR LF, and 3, which no header names, LF
 unfoldable pub ending_of : ℕ → Ending
-ending_of n = if eqb n 1 then Cr else if eqb n 2 then CrLf else Lf
+ending_of n = if eqb n 1 then Cr else (if eqb n 2 then CrLf else Lf)
 
 abbrev pub names_of : (html4 : Bool) → Names
 names_of html4 = if html4 then Html4 else Html5

@@ -1,6 +1,5 @@
 -- The state of a reader in parts as C keeps it between two calls. Whatever its numbers are, it stands for one. Assumes nothing.
-use Rattle.std.specs.Prelude.{Bool, not, ℕ, eqb}
-use Rattle.lent.specs.Bytes.{if◌then◌else◌}
+use Rattle.std.specs.Prelude.{Bool, not, ℕ, eqb, if◌then◌else◌}
 use Rattle.bundle_block.specs.declared.Refusal.{Refusal}
 use Rattle.bundle_block.specs.declared.Refusal.TheVariants.{Short, Broken, BadCheck, OtherEdition}
 use Rattle.bundle_read.specs.declared.Answer.{Answer}
@@ -17,7 +16,7 @@ is_set n = not (eqb n 0)
 
 -- the number and the block
 unfoldable pub refusal_of : (number place : ℕ) → Refusal
-refusal_of number place = if eqb number 1 then Short else if eqb number 11 then BadCheck place else if eqb number 12 then OtherEdition place else Broken place
+refusal_of number place = if eqb number 1 then Short else (if eqb number 11 then BadCheck place else (if eqb number 12 then OtherEdition place else Broken place))
 
 unfoldable pub answer_of : NotepageRead → Answer
 answer_of a = if eqb a.number 0 then Bundle a.value a.events a.edition else Refused (refusal_of a.number a.value)

@@ -1,4 +1,5 @@
 -- Code text in general: what is trimmed, what stays, and what becomes of a pipe in a table. Assumes nothing.
+use Rattle.std.specs.Prelude.{if◌then◌else◌}
 use mathlib.Core.Path.{◌≡◌, refl, ap, ◌∙◌}
 use mathlib.Core.Bool.{Bool, true, false, cond, not, ◌&&◌, and-false}
 use mathlib.Core.List.{List, [], ◌∷◌, ◌++◌}
@@ -7,7 +8,7 @@ use native.Mathlib.Omega.{arith}
 use lib.Dec.{T, eqb}
 use lib.ListN.{length, take, replicate, length-append}
 use lib.Seq.{take_at}
-use Rattle.lent.specs.Bytes.{if◌then◌else◌, all}
+use Rattle.lent.specs.Bytes.{all}
 use Rattle.lent.proofs.Computed.{and_left, and_right}
 use Rattle.machine.specs.Buffers.{last_or}
 use Rattle.machine.specs.Text.{starts_pipe, unescape_pipes, trim_code}

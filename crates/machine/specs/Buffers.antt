@@ -1,7 +1,7 @@
 -- The page and the captures above it: what `push`, `buffer`, `resume` and the line endings do. Assumes nothing.
-use Rattle.std.specs.Prelude.{Bool, true, false, List, [], ◌∷◌, ◌++◌, ℕ}
+use Rattle.std.specs.Prelude.{Bool, true, false, List, [], ◌∷◌, ◌++◌, ℕ, if◌then◌else◌}
 use Prim.Native.String.{String}
-use Rattle.lent.specs.Bytes.{if◌then◌else◌, bytes, one_of}
+use Rattle.lent.specs.Bytes.{bytes, one_of}
 use Rattle.encode_byte.specs.declared.Escaping.{Escaping}
 use Rattle.encode_byte.specs.Byte.{escaping_of}
 use Rattle.encode.specs.Encode.{encode_of}

@@ -1,8 +1,8 @@
 -- Footnotes (RULES R9.15): a body kept, a call counted and written, the section at the end. Assumes nothing.
-use Rattle.std.specs.Prelude.{Bool, true, false, ◌&&◌, List, [], ◌∷◌, ◌++◌, ℕ, zero, suc, ◌-◌, ltb, length, take, drop}
+use Rattle.std.specs.Prelude.{Bool, true, false, ◌&&◌, List, [], ◌∷◌, ◌++◌, ℕ, zero, suc, ◌-◌, ltb, length, take, drop, if◌then◌else◌}
 use Rattle.std.proofs.Math.Option.{Option, none, some}
 use Rattle.std.proofs.Math.ListN.{get_elem?}
-use Rattle.lent.specs.Bytes.{if◌then◌else◌, bytes, same, mapped, lower}
+use Rattle.lent.specs.Bytes.{bytes, same, mapped, lower}
 use Rattle.sanitize_uri.specs.Url.{sanitize_of}
 use Rattle.normalize_identifier.specs.declared.Found.{Found}
 use Rattle.normalize_identifier.specs.declared.Found.TheVariants.{At, Nothing}

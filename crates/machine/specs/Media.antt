@@ -1,8 +1,8 @@
 -- Links, images and definitions: what is known of the newest, where it leads, what is written of it. Assumes nothing.
-use Rattle.std.specs.Prelude.{Bool, true, false, ◌||◌, List, [], ◌∷◌, ◌++◌, ℕ}
+use Rattle.std.specs.Prelude.{Bool, true, false, ◌||◌, List, [], ◌∷◌, ◌++◌, ℕ, if◌then◌else◌}
 use Rattle.std.proofs.Math.Option.{Option, none, some}
 use Rattle.std.proofs.Math.ListN.{get_elem?}
-use Rattle.lent.specs.Bytes.{if◌then◌else◌, bytes}
+use Rattle.lent.specs.Bytes.{bytes}
 use Rattle.normalize_identifier.specs.declared.Found.{Found}
 use Rattle.normalize_identifier.specs.declared.Found.TheVariants.{At, Nothing}
 use Rattle.normalize_identifier.specs.Search.{first_same}

@@ -1,7 +1,7 @@
 -- The passes over the events, and the answer (RULES R9). Assumes nothing.
-use Rattle.std.specs.Prelude.{Bool, true, false, not, ◌&&◌, ◌||◌, List, [], ◌∷◌, ◌++◌, ℕ, suc, length}
+use Rattle.std.specs.Prelude.{Bool, true, false, not, ◌&&◌, ◌||◌, List, [], ◌∷◌, ◌++◌, ℕ, suc, length, if◌then◌else◌}
 use Rattle.std.proofs.Math.Option.{Option, none, some}
-use Rattle.lent.specs.Bytes.{if◌then◌else◌, bytes, same}
+use Rattle.lent.specs.Bytes.{bytes, same}
 use Rattle.event.specs.declared.Event.{Event}
 use Rattle.event.specs.Event.{is_enter, named}
 use Rattle.machine.specs.declared.Ending.{Ending}
@@ -21,9 +21,9 @@ use Rattle.machine.specs.Totals.{over}
 abbrev pub parse_ending : List ℕ → Outcome Ending
 parse_ending b =
     if same b (bytes "\n") then go Lf
-    else if same b (bytes "\r") then go Cr
-    else if same b (bytes "\r\n") then go CrLf
-    else stop
+    else (if same b (bytes "\r") then go Cr
+    else (if same b (bytes "\r\n") then go CrLf
+    else stop))
 
 unfoldable pub ending_of : Ending → (text : List ℕ) → List Event → Outcome Ending
 ending_of default text [] = go default

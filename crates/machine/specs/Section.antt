@@ -1,7 +1,7 @@
 -- The footnote section, RULES R9.16 (generate_footnote_section, generate_footnote_item). Assumes nothing.
-use Rattle.std.specs.Prelude.{Bool, true, false, ◌&&◌, List, [], ◌∷◌, ◌++◌, ℕ, zero, suc, ◌-◌, ltb, take, drop}
+use Rattle.std.specs.Prelude.{Bool, true, false, ◌&&◌, List, [], ◌∷◌, ◌++◌, ℕ, zero, suc, ◌-◌, ltb, take, drop, if◌then◌else◌}
 use Rattle.std.proofs.Math.ListN.{get_elem?}
-use Rattle.lent.specs.Bytes.{if◌then◌else◌, bytes, same}
+use Rattle.lent.specs.Bytes.{bytes, same}
 use Rattle.normalize_identifier.specs.declared.Found.{Found}
 use Rattle.normalize_identifier.specs.declared.Found.TheVariants.{At, Nothing}
 use Rattle.normalize_identifier.specs.Search.{first_same}

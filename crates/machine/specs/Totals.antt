@@ -1,7 +1,6 @@
 -- The three totals of RULES R8.3, as functions of the state, and when they or the page are too large. Assumes nothing.
-use Rattle.std.specs.Prelude.{◌||◌, List, [], ◌∷◌, ℕ, ◌+◌, ltb, length}
+use Rattle.std.specs.Prelude.{◌||◌, List, [], ◌∷◌, ℕ, ◌+◌, ltb, length, if◌then◌else◌}
 use Rattle.std.proofs.Math.Option.{Option, none, some}
-use Rattle.lent.specs.Bytes.{if◌then◌else◌}
 use Rattle.machine.specs.State.{State, Media, Definition, Footnote}
 use Rattle.machine.specs.Media.{own_of}
 
@@ -45,5 +44,5 @@ most_total = 16384
 unfoldable pub over : (room : ℕ) → State → Option ℕ
 over room s =
     if ltb most_total (captured s) || ltb most_total (held s) || ltb most_total (kept s) then some 8
-    else if ltb room (length s.page) then some 9
-    else none
+    else (if ltb room (length s.page) then some 9
+    else none)

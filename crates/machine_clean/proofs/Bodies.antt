@@ -1,4 +1,5 @@
 -- A footnote's body: which one, where it is cut, and that a UTF-8 body goes on. Assumes nothing.
+use Rattle.std.specs.Prelude.{if◌then◌else◌}
 use mathlib.Core.Path.{◌≡◌, refl}
 use mathlib.Core.Bool.{Bool, true, false}
 use mathlib.Core.List.{List, [], ◌∷◌, ◌++◌}
@@ -6,7 +7,7 @@ use Prim.Native.Nat.{ℕ, zero, suc, ◌+◌, ◌-◌, ◌≤◌, ◌<◌}
 use native.Mathlib.Omega.{arith}
 use lib.Dec.{ltb}
 use lib.ListN.{length, take, drop, get_or, get_elem?}
-use Rattle.lent.specs.Bytes.{if◌then◌else◌, bytes, same}
+use Rattle.lent.specs.Bytes.{bytes, same}
 use Rattle.lent.proofs.Laws.{and_right}
 use Rattle.utf8.proofs.Laws as Utf8
 use Rattle.normalize_identifier.specs.declared.Found.{Found}

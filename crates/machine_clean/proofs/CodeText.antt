@@ -1,4 +1,5 @@
 -- Code text: bytes that are cut off or taken out are characters of their own. Assumes nothing.
+use Rattle.std.specs.Prelude.{if◌then◌else◌}
 use mathlib.Core.Path.{◌≡◌, refl}
 use mathlib.Core.Bool.{Bool, true, false, not, ◌&&◌}
 use mathlib.Core.List.{List, [], ◌∷◌, ◌++◌, append-nil, append_assoc}
@@ -8,7 +9,7 @@ use native.Mathlib.Omega.{arith}
 use borrow.Author.Tests.{eqb-true}
 use lib.Dec.{eqb}
 use lib.ListN.{length, take, get_or}
-use Rattle.lent.specs.Bytes.{if◌then◌else◌, all}
+use Rattle.lent.specs.Bytes.{all}
 use Rattle.lent.proofs.Laws.{and_left, and_right}
 use Rattle.utf8.specs.Utf8.{is_utf8}
 use Rattle.utf8.proofs.Laws as Utf8

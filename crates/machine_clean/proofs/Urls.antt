@@ -1,4 +1,5 @@
 -- URLs and addresses: percent-encoded, bytes become ASCII. Assumes nothing.
+use Rattle.std.specs.Prelude.{if◌then◌else◌}
 use mathlib.Core.Path.{◌≡◌, refl}
 use mathlib.Core.Bool.{Bool, true, false, not, ◌||◌, ◌&&◌}
 use mathlib.Core.List.{List, [], ◌∷◌}
@@ -7,7 +8,7 @@ use native.Mathlib.Omega.{arith}
 use borrow.Author.Tests.{eqb-true}
 use lib.Dec.{T, eqb, ltb, ltb→lt, lt→ltb}
 use lib.ListN.{get_or}
-use Rattle.lent.specs.Bytes.{if◌then◌else◌, all, mapped, lower, upper}
+use Rattle.lent.specs.Bytes.{all, mapped, lower, upper}
 use Rattle.lent.proofs.Computed.{computed, and_left, and_right, and_both}
 use Rattle.utf8.specs.Utf8.{is_ascii}
 use Rattle.utf8.proofs.Laws.{at-most-F4}
@@ -92,7 +93,7 @@ identified begun gap (b ∷ s) t =
     on (blank b) gap (identified begun begun s u) (changed upper (computed (λ b. is_byte (upper b)) 256 tt) b s (identity_from true false s) t (identified true false s u))
   where
     on : (x y : Bool) → T (all is_byte (identity_from begun begun s)) → T (all is_byte (upper b ∷ identity_from true false s))
-        → T (all is_byte (if x then identity_from begun begun s else if y then 32 ∷ upper b ∷ identity_from true false s else upper b ∷ identity_from true false s))
+        → T (all is_byte (if x then identity_from begun begun s else (if y then 32 ∷ upper b ∷ identity_from true false s else upper b ∷ identity_from true false s)))
     on true y p q = p
     on false true p q = q
     on false false p q = q

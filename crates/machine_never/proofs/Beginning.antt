@@ -1,4 +1,5 @@
 -- The first pass outside of definitions, and over each of them. Assumes nothing.
+use Rattle.std.specs.Prelude.{if◌then◌else◌}
 use mathlib.Core.Path.{◌≡◌, refl, sym, ap, ◌∙◌}
 use mathlib.Core.Bool.{Bool, true, false}
 use mathlib.Core.Logic.{inl}
@@ -9,7 +10,6 @@ use native.Mathlib.Omega.{arith}
 use lib.Dec.{eqb}
 use borrow.Author.Tests.{eq-eqb}
 use lib.ListN.{length, length-append}
-use Rattle.lent.specs.Bytes.{if◌then◌else◌}
 use Rattle.event.specs.declared.Event.{Event}
 use Rattle.event.specs.Event.{is_enter, events_of}
 use Rattle.normalize_identifier.specs.Identity.{identity_of}
@@ -60,7 +60,7 @@ definitions-long (d ∷ ds) = ap suc (definitions-long ds)
 other-exits : (n : ℕ) (e : Event) (es : List Event) → eqb e.name n ≡ false → exits n (e ∷ es) ≡ exits n es
 other-exits n e es h = at (is_enter e)
   where
-    at : (x : Bool) → (if x then exits n es else if eqb e.name n then suc (exits n es) else exits n es) ≡ exits n es
+    at : (x : Bool) → (if x then exits n es else (if eqb e.name n then suc (exits n es) else exits n es)) ≡ exits n es
     at true = refl
     at false = rw h refl
 

@@ -1,9 +1,9 @@
 -- Where elements pair, definitions begin before they end. Assumes nothing.
+use Rattle.std.specs.Prelude.{if◌then◌else◌}
 use mathlib.Core.Path.{◌≡◌, refl}
 use mathlib.Core.Bool.{Bool, true, false, ◌||◌}
 use mathlib.Core.List.{List, ◌∷◌}
 use lib.Dec.{eqb}
-use Rattle.lent.specs.Bytes.{if◌then◌else◌}
 use Rattle.event.specs.declared.Event.{Event}
 use Rattle.event.specs.Event.{is_enter}
 use Rattle.check_rules.specs.Elements.{Forest, nil, element, list_of, Paired}

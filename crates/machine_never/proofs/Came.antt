@@ -1,4 +1,5 @@
 -- The law: a command that goes on does to the values what its effects say. Assumes nothing.
+use Rattle.std.specs.Prelude.{if◌then◌else◌}
 use mathlib.Core.Path.{◌≡◌, refl, sym, ap}
 use mathlib.Core.Bool.{Bool, true, false, ◌&&◌}
 use mathlib.Core.List.{List, [], ◌∷◌, ◌++◌}
@@ -6,7 +7,6 @@ use mathlib.Core.Option.{Option, none, some}
 use Prim.Native.Nat.{ℕ, ◌-◌}
 use lib.Dec.{leb}
 use lib.ListN.{length, take, drop}
-use Rattle.lent.specs.Bytes.{if◌then◌else◌}
 use Rattle.utf8.specs.Utf8.{is_utf8}
 use Rattle.machine.specs.Outcome.{Outcome, stop, go, ◌>>=◌, need}
 use Rattle.machine.specs.State.{State, Span, Media, Definition, Footnote}

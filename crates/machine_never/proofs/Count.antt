@@ -1,4 +1,5 @@
 -- No more footnote labels than footnotes, and as many exits as enters. Assumes nothing.
+use Rattle.std.specs.Prelude.{if◌then◌else◌}
 use mathlib.Core.Path.{◌≡◌, refl, sym, ap, ◌∙◌}
 use mathlib.Core.Bool.{Bool, true, false, ◌&&◌, ◌||◌}
 use mathlib.Core.List.{List, [], ◌∷◌, ◌++◌}
@@ -7,7 +8,7 @@ use native.Mathlib.Omega.{arith}
 use lib.Dec.{T, eqb, leb, leb→le, eqb→eq}
 use borrow.Author.Tests.{eqb-true, ne_eqb}
 use lib.ListN.{length}
-use Rattle.lent.specs.Bytes.{if◌then◌else◌, one_of}
+use Rattle.lent.specs.Bytes.{one_of}
 use Rattle.event.specs.declared.Event.{Event}
 use Rattle.event.specs.Event.{is_enter}
 use Rattle.check_labels.specs.declared.Part.TheVariants.{Slice, Nothing}
@@ -27,7 +28,7 @@ use Rattle.machine_shape.proofs.Test.{computed, kind-below}
 
 abbrev pub exits : ℕ → List Event → ℕ
 exits n [] = 0
-exits n (e ∷ es) = if is_enter e then exits n es else if eqb e.name n then suc (exits n es) else exits n es
+exits n (e ∷ es) = if is_enter e then exits n es else (if eqb e.name n then suc (exits n es) else exits n es)
 
 abbrev one? : Bool → ℕ
 one? true = 1
@@ -79,7 +80,7 @@ identities-long n text [] = refl
 identities-long n text (e ∷ es) = at (is_enter e) (eqb e.name n) (identities-long n text es)
   where
     at : (x y : Bool) → length (identities n text es) ≡ exits n es
-        → length {A = List ℕ} (elim (if x then Nothing else if y then Slice e.from.0 e.to.0 else Nothing) [ Slice from to ↦ identity_of (slice text from to) ∷ identities n text es | Nothing ↦ identities n text es ]) ≡ (if x then exits n es else if y then suc (exits n es) else exits n es)
+        → length {A = List ℕ} (elim (if x then Nothing else (if y then Slice e.from.0 e.to.0 else Nothing)) [ Slice from to ↦ identity_of (slice text from to) ∷ identities n text es | Nothing ↦ identities n text es ]) ≡ (if x then exits n es else (if y then suc (exits n es) else exits n es))
     at true y h = h
     at false true h = ap suc h
     at false false h = h

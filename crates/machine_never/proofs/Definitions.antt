@@ -1,4 +1,5 @@
 -- The first pass: every turn's values are right, and each definition's label is kept. Assumes nothing.
+use Rattle.std.specs.Prelude.{if◌then◌else◌}
 use mathlib.Core.Path.{◌≡◌, refl, sym, ◌∙◌}
 use mathlib.Core.Bool.{Bool, true, false, not, ◌||◌}
 use mathlib.Core.List.{List, [], ◌∷◌}
@@ -7,7 +8,7 @@ use native.Mathlib.Omega.{arith}
 use lib.Dec.{T, eqb}
 use borrow.Author.Tests.{ne_eqb}
 use lib.ListN.{length}
-use Rattle.lent.specs.Bytes.{if◌then◌else◌, one_of}
+use Rattle.lent.specs.Bytes.{one_of}
 use Rattle.event.specs.declared.Event.{Event}
 use Rattle.event.specs.Event.{is_enter, events_of}
 use Rattle.check_nesting.specs.Grammar.{name_of, kind_count}
@@ -98,7 +99,7 @@ module _ (text events : List ℕ) (meets : Meets text events) where
   fewer : (n : ℕ) (e : Event) (es : List Event) → exits n es ≤ exits n (e ∷ es)
   fewer n e es = at (is_enter e) (eqb e.name n)
     where
-      at : (x y : Bool) → exits n es ≤ (if x then exits n es else if y then suc (exits n es) else exits n es)
+      at : (x y : Bool) → exits n es ≤ (if x then exits n es else (if y then suc (exits n es) else exits n es))
       at true y = omega arith
       at false true = omega arith
       at false false = omega arith

@@ -1,4 +1,5 @@
 -- Laws of labels that are kept, along lists and forests. Assumes nothing.
+use Rattle.std.specs.Prelude.{if◌then◌else◌}
 use mathlib.Core.Path.{◌≡◌, refl}
 use mathlib.Core.Bool.{Bool, true, false, ◌||◌}
 use mathlib.Core.Logic.{◌⊎◌, inl, inr}
@@ -7,7 +8,7 @@ use Prim.Native.Nat.{ℕ, ◌+◌, ◌≤◌}
 use native.Mathlib.Omega.{arith}
 use lib.Dec.{T, eqb}
 use borrow.Author.Tests.{ne_eqb}
-use Rattle.lent.specs.Bytes.{if◌then◌else◌, same, listed}
+use Rattle.lent.specs.Bytes.{same, listed}
 use Rattle.event.specs.declared.Event.{Event}
 use Rattle.event.specs.Event.{is_enter}
 use Rattle.normalize_identifier.specs.declared.Found.TheVariants.{At, Nothing as Missing}
@@ -97,7 +98,7 @@ pub other_none : (n : ℕ) (e : Event) → eqb e.name n ≡ false → label_of n
 unfolding label_of
 other_none n e h = at (is_enter e)
   where
-    at : (x : Bool) → (if x then Nothing else if eqb e.name n then Slice e.from.0 e.to.0 else Nothing) ≡ Nothing
+    at : (x : Bool) → (if x then Nothing else (if eqb e.name n then Slice e.from.0 e.to.0 else Nothing)) ≡ Nothing
     at true = refl
     at false = rw h refl
 
@@ -105,7 +106,7 @@ pub own-part : (n : ℕ) (e : Event) → (label_of n e ≡ Nothing) ⊎ (label_o
 unfolding label_of
 own-part n e = at (is_enter e) (eqb e.name n)
   where
-    at : (x y : Bool) → ((if x then Nothing else if y then Slice e.from.0 e.to.0 else Nothing) ≡ Nothing) ⊎ ((if x then Nothing else if y then Slice e.from.0 e.to.0 else Nothing) ≡ Slice e.from.0 e.to.0)
+    at : (x y : Bool) → ((if x then Nothing else (if y then Slice e.from.0 e.to.0 else Nothing)) ≡ Nothing) ⊎ ((if x then Nothing else (if y then Slice e.from.0 e.to.0 else Nothing)) ≡ Slice e.from.0 e.to.0)
     at true y = inl refl
     at false true = inr refl
     at false false = inl refl

@@ -1,4 +1,5 @@
 -- What the rules and the nesting give a turn, whatever the state. Assumes nothing.
+use Rattle.std.specs.Prelude.{if◌then◌else◌}
 use mathlib.Core.Path.{◌≡◌, refl, ap, ◌∙◌}
 use mathlib.Core.Bool.{Bool, true, false, ◌&&◌}
 use mathlib.Core.List.{List, [], ◌∷◌}
@@ -8,7 +9,7 @@ use native.Mathlib.Omega.{arith}
 use lib.Dec.{T, leb}
 use borrow.Author.Tests.{leb-true, lt-ltb, ne_eqb}
 use lib.ListN.{length, take, drop, get_elem?}
-use Rattle.lent.specs.Bytes.{if◌then◌else◌, between, all, is_digit}
+use Rattle.lent.specs.Bytes.{between, all, is_digit}
 use Rattle.event.specs.declared.Event.{Event}
 use Rattle.event.specs.Event.{is_enter, event_at, events_of}
 use Rattle.character_reference.specs.declared.Marker.{Marker}
@@ -43,7 +44,7 @@ digit b t =
     let l = leb-true b 57 (passed (leb b 57) p.1) in
     let m = leb-true 48 b (passed (leb 48 b) p.0) in
     let e : between 48 57 b ≡ true = passed (between 48 57 b) t in
-    let d : (if between 48 57 b then b - 48 else if between 65 70 b then b - 55 else if between 97 102 b then b - 87 else 16) ≡ b - 48 = rw e refl in
+    let d : (if between 48 57 b then b - 48 else (if between 65 70 b then b - 55 else (if between 97 102 b then b - 87 else 16))) ≡ b - 48 = rw e refl in
     is_true (is_digit_of 10 b) (lt-ltb (digit_value b) 10 (omega (arith, d)))
 
 digits : (s : List ℕ) → T (all is_digit s) → T (all (is_digit_of 10) s)

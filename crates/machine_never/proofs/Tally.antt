@@ -1,4 +1,5 @@
 -- A call that is counted keeps the tally, and the tally keeps the calls in the code's table. Assumes nothing.
+use Rattle.std.specs.Prelude.{if◌then◌else◌}
 use mathlib.Core.Path.{◌≡◌, refl, sym, ap, ◌∙◌}
 use mathlib.Core.Bool.{Bool, true, false, ◌||◌}
 use mathlib.Core.Logic.{◌⊎◌, inl, inr}
@@ -7,7 +8,7 @@ use Prim.Native.Nat.{ℕ, suc, ◌+◌, ◌-◌, ◌≤◌, ◌<◌}
 use native.Mathlib.Omega.{arith}
 use borrow.Author.Tests.{lt-ltb}
 use lib.ListN.{length}
-use Rattle.lent.specs.Bytes.{if◌then◌else◌, same, listed}
+use Rattle.lent.specs.Bytes.{same, listed}
 use Rattle.normalize_identifier.specs.declared.Found.{Found}
 use Rattle.normalize_identifier.specs.declared.Found.TheVariants.{At, Nothing}
 use Rattle.normalize_identifier.specs.Identity.{identity_of}

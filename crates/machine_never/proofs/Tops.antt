@@ -1,4 +1,5 @@
 -- An element's children as a list. Assumes nothing.
+use Rattle.std.specs.Prelude.{if◌then◌else◌}
 use mathlib.Core.Path.{◌≡◌, refl, sym, ap, ◌∙◌}
 use mathlib.Core.Bool.{Bool, true, false, not, ◌||◌}
 use mathlib.Core.Logic.{◌⊎◌, inl, inr}
@@ -8,7 +9,7 @@ use Prim.Native.Nat.{ℕ}
 use native.Mathlib.Omega.{arith}
 use lib.Dec.{T, eqb, leb}
 use borrow.Author.Tests.{le-leb, lt-leb, eqb-true}
-use Rattle.lent.specs.Bytes.{if◌then◌else◌, one_of}
+use Rattle.lent.specs.Bytes.{one_of}
 use Rattle.check_labels.specs.declared.Part.{Part}
 use Rattle.check_labels.specs.declared.Part.TheVariants.{Slice, Nothing}
 use Rattle.check_labels.specs.Labels.{or_else}
@@ -44,7 +45,7 @@ child-tops n nil = refl
 child-tops n (element a f z g) = at (leb a.name 4) (child-tops n f) (child-tops n g)
   where
     at : (b : Bool) → child_of n f ≡ child_top n (tops f) → child_of n g ≡ child_top n (tops g)
-        → (if b then or_else (child_of n f) (child_of n g) else if eqb a.name n then Slice z.from.0 z.to.0 else child_of n g) ≡ child_top n (if b then tops f ++ tops g else record { enter = a; inside = f; exit = z } ∷ tops g)
+        → (if b then or_else (child_of n f) (child_of n g) else (if eqb a.name n then Slice z.from.0 z.to.0 else child_of n g)) ≡ child_top n (if b then tops f ++ tops g else record { enter = a; inside = f; exit = z } ∷ tops g)
     at true h k = rw (h, k) (sym (child-join n (tops f) (tops g)))
     at false h k = rw k refl
 

@@ -1,4 +1,5 @@
 -- Both passes over the whole list, with the line ending before and the footnotes behind. Assumes nothing.
+use Rattle.std.specs.Prelude.{if◌then◌else◌}
 use mathlib.Core.Path.{◌≡◌, refl, ap, ◌∙◌}
 use mathlib.Core.Bool.{Bool, true, false, not, ◌&&◌, ◌||◌}
 use mathlib.Core.Logic.{◌⊎◌, inl, inr}
@@ -9,7 +10,7 @@ use native.Mathlib.Omega.{arith}
 use lib.Dec.{eqb}
 use borrow.Author.Tests.{eqb-true}
 use lib.ListN.{length}
-use Rattle.lent.specs.Bytes.{if◌then◌else◌, bytes, same, listed}
+use Rattle.lent.specs.Bytes.{bytes, same, listed}
 use Rattle.event.specs.declared.Event.{Event}
 use Rattle.event.specs.Event.{is_enter, event_at, events_of}
 use Rattle.normalize_identifier.specs.Identity.{identity_of}
@@ -55,7 +56,7 @@ ending-parsed : (b : List ℕ) → is_ending b ≡ true → R.Goes (parse_ending
 unfolding is_ending
 ending-parsed b h = at (same b (bytes "\n")) (same b (bytes "\r")) (same b (bytes "\r\n")) h
   where
-    at : (x y z : Bool) → (x || (y || (z || false))) ≡ true → R.Goes (if x then go Lf else if y then go Cr else if z then go CrLf else stop)
+    at : (x y z : Bool) → (x || (y || (z || false))) ≡ true → R.Goes (if x then go Lf else (if y then go Cr else (if z then go CrLf else stop)))
     at true y z h = (Lf, refl)
     at false true z h = (Cr, refl)
     at false false true h = (CrLf, refl)

@@ -1,4 +1,5 @@
 -- Commands that keep a definition or a footnote, and that count a call. Assumes nothing.
+use Rattle.std.specs.Prelude.{if◌then◌else◌}
 use mathlib.Core.Path.{◌≡◌, refl}
 use mathlib.Core.Bool.{Bool, true, false}
 use mathlib.Core.List.{List, [], ◌∷◌, ◌++◌}
@@ -6,7 +7,6 @@ use Prim.Native.Nat.{ℕ, suc, ◌≤◌, ◌<◌}
 use native.Mathlib.Omega.{arith}
 use lib.Dec.{T}
 use lib.ListN.{length, length-append}
-use Rattle.lent.specs.Bytes.{if◌then◌else◌}
 use Rattle.machine.specs.Outcome.{go, ◌>>=◌, need}
 use Rattle.machine.specs.State.{State, Span, Media, Definition}
 use Rattle.machine.specs.Set.{set_captures, set_media, set_labels, add_definition, add_footnote, set_calls}

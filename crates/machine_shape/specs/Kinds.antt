@@ -1,6 +1,6 @@
 -- What each kind of element asks of the state at its enter, and what it does up to its exit. Assumes nothing.
-use Rattle.std.specs.Prelude.{Bool, true, ◌&&◌, List, [], ◌∷◌, ℕ, zero, suc, get_or}
-use Rattle.lent.specs.Bytes.{if◌then◌else◌, one_of}
+use Rattle.std.specs.Prelude.{Bool, true, ◌&&◌, List, [], ◌∷◌, ℕ, zero, suc, get_or, if◌then◌else◌}
+use Rattle.lent.specs.Bytes.{one_of}
 use Rattle.machine.specs.Command.{nothing}
 use Rattle.machine.specs.Handlers.{Row, on, rows}
 use Rattle.check_nesting.specs.Grammar.{flow, name_of, holds, whole, bullet_item, bullet_prefix, second_fence, call_label}

@@ -1,6 +1,6 @@
 -- Label identity (RULES R6.1): one space for each run of blanks and none at the ends, ASCII letters as capitals, all else as it stands. Assumes nothing.
-use Rattle.std.specs.Prelude.{◌≡◌, Bool, true, false, List, [], ◌∷◌, ℕ, suc, ◌<◌, ◌≤◌, length, drop}
-use Rattle.lent.specs.Bytes.{if◌then◌else◌, one_of, upper}
+use Rattle.std.specs.Prelude.{◌≡◌, Bool, true, false, List, [], ◌∷◌, ℕ, suc, ◌<◌, ◌≤◌, length, drop, if◌then◌else◌}
+use Rattle.lent.specs.Bytes.{one_of, upper}
 use Rattle.normalize_identifier.specs.declared.Cursor.{Cursor}
 use Rattle.normalize_identifier.specs.declared.Step.{Step}
 use Rattle.normalize_identifier.specs.declared.Step.TheVariants.{Byte, End}
@@ -18,8 +18,8 @@ unfoldable pub identity_from : Bool → Bool → List ℕ → List ℕ
 identity_from begun gap [] = []
 identity_from begun gap (b ∷ bs) =
     if blank b then identity_from begun begun bs
-    else if gap then 32 ∷ folded b ∷ identity_from true false bs
-    else folded b ∷ identity_from true false bs
+    else (if gap then 32 ∷ folded b ∷ identity_from true false bs
+    else folded b ∷ identity_from true false bs)
 
 unfoldable pub identity_of : List ℕ → List ℕ
 identity_of label = identity_from false false label

@@ -1,6 +1,6 @@
 -- The search for a label in a table of labels: of equal ones the first counts. Assumes nothing.
-use Rattle.std.specs.Prelude.{List, [], ◌∷◌, ℕ, ◌+◌, ◌-◌, ◌<◌, ◌≤◌, length, get_or, take, drop}
-use Rattle.lent.specs.Bytes.{if◌then◌else◌, same}
+use Rattle.std.specs.Prelude.{List, [], ◌∷◌, ℕ, ◌+◌, ◌-◌, ◌<◌, ◌≤◌, length, get_or, take, drop, if◌then◌else◌}
+use Rattle.lent.specs.Bytes.{same}
 use Rattle.normalize_identifier.specs.Identity.{identity_of}
 use Rattle.normalize_identifier.specs.declared.Found.{Found}
 use Rattle.normalize_identifier.specs.declared.Found.TheVariants.{At, Nothing}

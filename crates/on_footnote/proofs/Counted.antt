@@ -1,11 +1,11 @@
 -- A call counted, and written where it is in no image's text. Assumes nothing.
+use Rattle.std.specs.Prelude.{if◌then◌else◌}
 use mathlib.Core.Path.{◌≡◌, refl, sym, ap, ◌∙◌}
 use mathlib.Core.Bool.{Bool, true, false}
 use mathlib.Core.List.{List}
 use Prim.Native.Nat.{ℕ, suc, ◌≤◌, ◌<◌}
 use native.Mathlib.Omega.{arith}
 use lib.ListN.{length}
-use Rattle.lent.specs.Bytes.{if◌then◌else◌}
 use Rattle.regions.specs.Sizes.{region_size, held_at, kept_at, work_size}
 use Rattle.machine.specs.State as State
 use Rattle.machine.specs.State.{State}

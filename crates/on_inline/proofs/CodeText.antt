@@ -1,10 +1,10 @@
 -- Code text taken off, as the table says. Assumes nothing.
+use Rattle.std.specs.Prelude.{if◌then◌else◌}
 use mathlib.Core.Path.{◌≡◌, sym, ◌∙◌}
 use mathlib.Core.Bool.{Bool, true, false}
 use mathlib.Core.List.{List, [], ◌∷◌}
 use mathlib.Core.Option.{Option, none, some}
 use Prim.Native.Nat.{ℕ}
-use Rattle.lent.specs.Bytes.{if◌then◌else◌}
 use Rattle.event.specs.Event.{alignments_of}
 use Rattle.machine.specs.State.{State}
 use Rattle.machine.specs.Outcome.{go, ◌>>=◌}

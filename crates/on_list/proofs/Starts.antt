@@ -1,4 +1,5 @@
 -- The attribute of a list's start, which the event's slice says. Assumes nothing.
+use Rattle.std.specs.Prelude.{if◌then◌else◌}
 use mathlib.Core.Path.{◌≡◌, refl, sym, ◌∙◌}
 use mathlib.Core.Bool.{Bool, true, false, ◌&&◌}
 use mathlib.Core.List.{List}
@@ -7,7 +8,6 @@ use native.Mathlib.Omega.{arith}
 use borrow.Author.Tests.{leb-true}
 use lib.Dec.{leb}
 use lib.ListN.{length, take, drop}
-use Rattle.lent.specs.Bytes.{if◌then◌else◌}
 use Rattle.lent.proofs.Laws.{and_left, and_right}
 use Rattle.utf8.specs.Utf8.{is_utf8}
 use Rattle.event.specs.declared.Event.{Event}

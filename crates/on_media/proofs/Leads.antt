@@ -1,4 +1,5 @@
 -- Where a medium leads, as the machine and the code show it. Assumes nothing.
+use Rattle.std.specs.Prelude.{if◌then◌else◌}
 use mathlib.Core.Path.{◌≡◌, refl, sym, ap, ◌∙◌}
 use mathlib.Core.Bool.{Bool, true, false, ◌&&◌, ◌||◌}
 use mathlib.Core.List.{List, [], ◌∷◌}
@@ -6,7 +7,6 @@ use mathlib.Core.Option.{Option, none, some}
 use Prim.Native.Nat.{ℕ}
 use native.Mathlib.Omega.{arith}
 use lib.ListN.{length, get_or, get_elem?}
-use Rattle.lent.specs.Bytes.{if◌then◌else◌}
 use Rattle.regions.specs.Sizes.{held_at, kept_at}
 use Rattle.encode.specs.Encode.{encode_of}
 use Rattle.normalize_uri.specs.Url.{normalize_of}

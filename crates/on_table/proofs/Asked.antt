@@ -1,4 +1,5 @@
 -- What is asked of the table that is open. Outside of one the machine stops. Assumes nothing.
+use Rattle.std.specs.Prelude.{if◌then◌else◌}
 use mathlib.Core.Path.{◌≡◌, refl, sym, ap, ◌∙◌}
 use mathlib.Core.Bool.{Bool, true, false}
 use mathlib.Core.List.{List, [], ◌∷◌}
@@ -8,7 +9,6 @@ use native.Mathlib.Omega.{arith}
 use borrow.Author.Tests.{le-leb, lt-leb, leb-true, leb-false}
 use lib.Dec.{leb}
 use lib.ListN.{length, get_elem?}
-use Rattle.lent.specs.Bytes.{if◌then◌else◌}
 use Rattle.event.specs.Event.{columns_of, alignments_of}
 use Rattle.event.proofs.Laws.{length-alignments}
 use Rattle.machine.specs.State as State

@@ -1,4 +1,5 @@
 -- What the code goes by where a record acts: counts, and the two tables. Assumes nothing.
+use Rattle.std.specs.Prelude.{if◌then◌else◌}
 use mathlib.Core.Path.{◌≡◌, ap}
 use mathlib.Core.Bool.{Bool, true, false}
 use mathlib.Core.List.{List}
@@ -7,7 +8,6 @@ use native.Mathlib.Omega.{arith}
 use borrow.Author.Tests.{eq-eqb, ne_eqb}
 use lib.Dec.{eqb}
 use lib.ListN.{set, get_or}
-use Rattle.lent.specs.Bytes.{if◌then◌else◌}
 use Rattle.replay_record.specs.declared.Action.{Action}
 use Rattle.replay_record.specs.declared.Action.TheVariants.{Stage, Swap, Show}
 use Rattle.replay_machine.specs.declared.Count.{Count}

@@ -1,6 +1,5 @@
 -- The plain machine of a sync log (RULES R21.4): what is staged and what is current for each note, and what the shows come to. Assumes nothing.
-use Rattle.std.specs.Prelude.{Bool, List, [], ◌∷◌, ℕ, ◌+◌, eqb, set, get_or}
-use Rattle.lent.specs.Bytes.{if◌then◌else◌}
+use Rattle.std.specs.Prelude.{Bool, List, [], ◌∷◌, ℕ, ◌+◌, eqb, set, get_or, if◌then◌else◌}
 use Rattle.lent.specs.Fill.{zeros}
 use Rattle.replay_record.specs.declared.Action.{Action}
 use Rattle.replay_record.specs.declared.Action.TheVariants.{Stage, Swap, Show}

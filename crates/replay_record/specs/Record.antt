@@ -1,6 +1,6 @@
 -- A record of a sync log (RULES R21.3): 16 bytes, little endian. Assumes nothing.
-use Rattle.std.specs.Prelude.{Bool, ◌&&◌, List, ℕ, eqb, ltb, drop}
-use Rattle.lent.specs.Bytes.{if◌then◌else◌, all}
+use Rattle.std.specs.Prelude.{Bool, ◌&&◌, List, ℕ, eqb, ltb, drop, if◌then◌else◌}
+use Rattle.lent.specs.Bytes.{all}
 use Rattle.bundle_block.specs.Block.{field, is_zero}
 use Rattle.replay_record.specs.declared.Action.TheVariants.{Stage, Swap, Show}
 use Rattle.replay_record.specs.declared.Record.{Record}
@@ -46,10 +46,10 @@ swap_of note edition = if eqb edition 0 then Does (Swap note) else Faulty
 unfoldable pub act_of : (action note edition : ℕ) → Record
 act_of action note edition =
     if eqb action 0 then end_of note edition
-    else if eqb action 1 then stage_of note edition
-    else if eqb action 2 then swap_of note edition
-    else if eqb action 3 then Does (Show note edition)
-    else Faulty
+    else (if eqb action 1 then stage_of note edition
+    else (if eqb action 2 then swap_of note edition
+    else (if eqb action 3 then Does (Show note edition)
+    else Faulty)))
 
 unfoldable pub record_of : List ℕ → Record
 record_of r = if is_plain r then act_of (action_in r) (note_in r) (edition_in r) else Faulty

@@ -1,4 +1,5 @@
 -- Which line ending a slice is, and the walk to the first. Assumes nothing.
+use Rattle.std.specs.Prelude.{if◌then◌else◌}
 use mathlib.Core.Path.{◌≡◌, refl, sym, ap, ◌∙◌}
 use mathlib.Core.Bool.{Bool, true, false, ◌&&◌, ◌||◌}
 use mathlib.Core.List.{List, [], ◌∷◌}
@@ -8,7 +9,7 @@ use borrow.Author.Tests.{leb-true}
 use lib.Dec.{eqb, leb}
 use lib.ListN.{length, take, drop, get_or, length-take, length-drop}
 use lib.Seq.{drop-cons}
-use Rattle.lent.specs.Bytes.{if◌then◌else◌, bytes, same}
+use Rattle.lent.specs.Bytes.{bytes, same}
 use Rattle.lent.proofs.Laws.{and_left, and_right}
 use Rattle.lent.proofs.Same.{same-equal}
 use Rattle.utf8.specs.Utf8.{is_utf8}

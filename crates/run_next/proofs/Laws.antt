@@ -1,4 +1,5 @@
 -- Each bit, by a computed test. Assumes nothing.
+use Rattle.std.specs.Prelude.{if◌then◌else◌}
 use mathlib.Core.Path.{◌≡◌, refl, sym, ◌∙◌}
 use mathlib.Core.Bool.{Bool, true, false}
 use Prim.Native.Nat.{ℕ, ◌/◌, ◌%◌, ◌^◌, ◌≤◌, ◌<◌}
@@ -6,7 +7,6 @@ use native.Mathlib.Omega.{arith}
 use borrow.Author.Tests.{eq-eqb, ne_eqb}
 use lib.Bits.{bit_and, and_mask}
 use lib.Dec.{eqb}
-use Rattle.lent.specs.Bytes.{if◌then◌else◌}
 use Rattle.event.specs.declared.Event.{Event}
 use Rattle.event.specs.Event.{is_enter}
 use Rattle.machine.specs.Command.{Command, nothing}

@@ -1,7 +1,6 @@
 -- How far the machine's run over a pass's turns has come. Assumes nothing.
-use Rattle.std.specs.Prelude.{◌≡◌, Bool, not, List, ◌++◌, ℕ, length}
+use Rattle.std.specs.Prelude.{◌≡◌, Bool, not, List, ◌++◌, ℕ, length, if◌then◌else◌}
 use Rattle.std.proofs.Math.Option.{none}
-use Rattle.lent.specs.Bytes.{if◌then◌else◌}
 use Rattle.event.specs.Event.{count_of}
 use Rattle.machine.specs.State.{State}
 use Rattle.machine.specs.Turn.{Turn}

@@ -1,4 +1,5 @@
 -- A URL's scheme as a text of its own, and the judgement by it. Assumes nothing.
+use Rattle.std.specs.Prelude.{if◌then◌else◌}
 use mathlib.Core.Path.{◌≡◌, refl, ap, ◌∙◌}
 use mathlib.Core.Bool.{Bool, true, false}
 use mathlib.Core.List.{List, [], ◌∷◌}
@@ -7,7 +8,7 @@ use Prim.Native.Nat.{ℕ, ◌+◌}
 use native.Mathlib.Omega.{arith}
 use lib.Dec.{eqb}
 use lib.ListN.{length, take}
-use Rattle.lent.specs.Bytes.{if◌then◌else◌, bytes, one_of, mapped, lower, listed}
+use Rattle.lent.specs.Bytes.{bytes, one_of, mapped, lower, listed}
 use Rattle.sanitize_uri.specs.declared.Colon.{Colon}
 use Rattle.sanitize_uri.specs.declared.Colon.TheVariants.{At, Missing}
 use Rattle.sanitize_uri.specs.Protocols.{colon_from, colon_of, allowed_at, is_allowed}
@@ -22,7 +23,7 @@ is_bar b = one_of (bytes "?#/") b
 
 unfoldable pub scheme_of : List ℕ → Option (List ℕ)
 scheme_of [] = none
-scheme_of (b ∷ bs) = if eqb b 58 then some [] else if is_bar b then none else led b (scheme_of bs)
+scheme_of (b ∷ bs) = if eqb b 58 then some [] else (if is_bar b then none else led b (scheme_of bs))
 
 abbrev place_of : ℕ → Option (List ℕ) → Colon
 place_of i none = Missing
@@ -42,7 +43,7 @@ colon-is i (b ∷ l) = on (eqb b 58) (is_bar b) (colon-is (i + 1) l)
     shifted (some s) = ap At (omega arith)
 
     on : (x y : Bool) → colon_from (i + 1) l ≡ place_of (i + 1) (scheme_of l)
-        → (if x then At i else if y then Missing else colon_from (i + 1) l) ≡ place_of i (if x then some [] else if y then none else led b (scheme_of l))
+        → (if x then At i else (if y then Missing else colon_from (i + 1) l)) ≡ place_of i (if x then some [] else (if y then none else led b (scheme_of l)))
     on true y h = ap At (omega arith)
     on false true h = refl
     on false false h = h ∙ shifted (scheme_of l)
@@ -52,7 +53,7 @@ unfolding scheme_of
 taken [] s p = let z : ◌≡◌ {A = ℕ} 0 1 = cc in absurd (omega arith)
 taken (b ∷ l) s p = on (eqb b 58) (is_bar b) (scheme_of l) (taken l) p
   where
-    on : (x y : Bool) (o : Option (List ℕ)) → ((t : List ℕ) → o ≡ some t → take (length t) l ≡ t) → (if x then some [] else if y then none else led b o) ≡ some s → take (length s) (b ∷ l) ≡ s
+    on : (x y : Bool) (o : Option (List ℕ)) → ((t : List ℕ) → o ≡ some t → take (length t) l ≡ t) → (if x then some [] else (if y then none else led b o)) ≡ some s → take (length s) (b ∷ l) ≡ s
     on true y o f q = let e : [] ≡ s = cc in rw (← e)
     on false true o f q = let z : ◌≡◌ {A = ℕ} 0 1 = cc in absurd (omega arith)
     on false false none f q = let z : ◌≡◌ {A = ℕ} 0 1 = cc in absurd (omega arith)

@@ -1,4 +1,5 @@
 -- The scheme of a percent-encoded URL: that of the given one, or both have a byte that no scheme has. Assumes nothing.
+use Rattle.std.specs.Prelude.{if◌then◌else◌}
 use mathlib.Core.Path.{◌≡◌, refl, sym, ap, ◌∙◌}
 use mathlib.Core.Bool.{Bool, true, false, not, ◌||◌, or-true}
 use mathlib.Core.List.{List, [], ◌∷◌, ◌++◌}
@@ -8,7 +9,7 @@ use native.Mathlib.Decide.{dec_lt, ℕ_discrete}
 use native.Mathlib.Omega.{arith}
 use borrow.Author.Tests.{ne_eqb, lt-ltb, le-ltb}
 use lib.Dec.{eqb}
-use Rattle.lent.specs.Bytes.{if◌then◌else◌, any}
+use Rattle.lent.specs.Bytes.{any}
 use Rattle.url_byte.specs.Byte.{is_kept, stays, hex_upper, percent, url_byte}
 use Rattle.url_byte.proofs.Laws.{unlike}
 use Rattle.normalize_uri.specs.Url.{normalize_of}
@@ -76,7 +77,7 @@ kept-bar b k p q = ne_eqb b k (λ e. unlike k b q p (sym e))
 odd-plain : (b : ℕ) (l : List ℕ) → is_kept b ≡ false → scheme_of (b ∷ l) ≡ led b (scheme_of l)
 odd-plain b l p = plain b l (kept-bar b 58 p refl) (rw (kept-bar b 63 p refl, kept-bar b 35 p refl, kept-bar b 47 p refl))
 
-kept-led : (b : ℕ) {x y : Option (List ℕ)} (c r : Bool) → Alike x y → Alike (if c then some [] else if r then none else led b x) (if c then some [] else if r then none else led b y)
+kept-led : (b : ℕ) {x y : Option (List ℕ)} (c r : Bool) → Alike x y → Alike (if c then some [] else (if r then none else led b x)) (if c then some [] else (if r then none else led b y))
 kept-led b true r h = equal
 kept-led b false true h = neither
 kept-led b false false h = alike-led b h

@@ -1,4 +1,5 @@
 -- What the code of `sanitize_uri` goes by: the colon, and the scheme before it. Assumes nothing.
+use Rattle.std.specs.Prelude.{if◌then◌else◌}
 use mathlib.Core.Path.{◌≡◌, refl, sym, ap, ◌∙◌}
 use mathlib.Core.Bool.{Bool, true, false, not, ◌||◌, and-false, or-false, or_assoc}
 use mathlib.Core.List.{List, [], ◌∷◌}
@@ -7,7 +8,7 @@ use native.Mathlib.Omega.{arith}
 use borrow.Author.Tests.{eq-eqb, ne_eqb, le-leb, lt-leb, not-true, not-false}
 use lib.Dec.{eqb}
 use lib.ListN.{length, take, drop, get_or, drop_of_length-le}
-use Rattle.lent.specs.Bytes.{if◌then◌else◌, bytes, one_of, same, mapped, lower, listed}
+use Rattle.lent.specs.Bytes.{bytes, one_of, same, mapped, lower, listed}
 use Rattle.lent.specs.Fill.{Filled}
 use Rattle.lent.proofs.Laws.{next, none}
 use Rattle.encode_byte.specs.declared.Escaping.{Escaping}
@@ -41,7 +42,7 @@ module _ (i : ℕ) (l : List ℕ) (w : Colon) (p : colon_from i (drop i l) ≡ w
   unfolding colon_from
   colon-missing h = rw (drop_of_length-le l h) at p
 
-colon-case : (x y : Bool) (i n k : ℕ) (rest : Colon) → i < k → (rest ≡ At n → n < k) → (if x then At i else if y then Missing else rest) ≡ At n → n < k
+colon-case : (x y : Bool) (i n k : ℕ) (rest : Colon) → i < k → (rest ≡ At n → n < k) → (if x then At i else (if y then Missing else rest)) ≡ At n → n < k
 colon-case true y i n k rest h f p = let q : i ≡ n = cc in omega arith
 colon-case false true i n k rest h f p = let z : ◌≡◌ {A = ℕ} 0 1 = cc in absurd (omega arith)
 colon-case false false i n k rest h f p = f p

@@ -1,6 +1,6 @@
 -- URLs whose scheme must be listed, RULES R11.5 (`sanitize_with_protocols`). Assumes nothing.
-use Rattle.std.specs.Prelude.{Bool, true, false, List, [], ◌∷◌, ℕ, ◌+◌, eqb, take}
-use Rattle.lent.specs.Bytes.{if◌then◌else◌, bytes, one_of, listed, mapped, lower}
+use Rattle.std.specs.Prelude.{Bool, true, false, List, [], ◌∷◌, ℕ, ◌+◌, eqb, take, if◌then◌else◌}
+use Rattle.lent.specs.Bytes.{bytes, one_of, listed, mapped, lower}
 use Rattle.sanitize_uri.specs.declared.Colon.{Colon}
 use Rattle.sanitize_uri.specs.declared.Colon.TheVariants.{At, Missing}
 use Rattle.sanitize_uri.specs.declared.Protocols.{Protocols}
@@ -12,8 +12,8 @@ unfoldable pub colon_from : ℕ → List ℕ → Colon
 colon_from i [] = Missing
 colon_from i (b ∷ bs) =
     if eqb b 58 then At i
-    else if one_of (bytes "?#/") b then Missing
-    else colon_from (i + 1) bs
+    else (if one_of (bytes "?#/") b then Missing
+    else colon_from (i + 1) bs)
 
 unfoldable pub colon_of : List ℕ → Colon
 colon_of url = colon_from 0 url

@@ -1,4 +1,5 @@
 -- Line endings: what the last byte of the newest buffer says of the machine's. Assumes nothing.
+use Rattle.std.specs.Prelude.{if◌then◌else◌}
 use mathlib.Core.Path.{◌≡◌, refl, sym, ap, ◌∙◌}
 use mathlib.Core.Bool.{Bool, true, false, true≢false, ◌||◌}
 use mathlib.Core.List.{List, [], ◌∷◌, ◌++◌, append-nil, append_assoc}
@@ -10,7 +11,6 @@ use borrow.Author.Tests.{le-leb, lt-leb, le-ltb, lt-ltb, eq-eqb, ne_eqb}
 use lib.Dec.{eqb, leb, ltb}
 use lib.ListN.{length, take, drop, get_or, length-append, length-take}
 use lib.Seq.{get_or-take, get_or-append-add}
-use Rattle.lent.specs.Bytes.{if◌then◌else◌}
 use Rattle.lent.specs.Fill.{fill, past, Filled}
 use Rattle.machine.specs.declared.Ending.{Ending}
 use Rattle.machine.specs.declared.Ending.TheVariants.{Lf, Cr, CrLf}
@@ -105,7 +105,7 @@ module _ (b : Buffers) (captures out starts : List ℕ) (s : State) (x : Stand b
   unfolding ends_line
   over-start d from to l = go (leb to from)
     where
-      go : (t : Bool) → (if t then true else if ltb (length d) to then true else is_eol (get_or d (to - 1) 0)) ≡ true
+      go : (t : Bool) → (if t then true else (if ltb (length d) to then true else is_eol (get_or d (to - 1) 0))) ≡ true
       go true = refl
       go false = rw (lt-ltb (length d) to l)
 

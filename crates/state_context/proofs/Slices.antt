@@ -1,4 +1,5 @@
 -- Slices of the text, and captures opened and taken off. Assumes nothing.
+use Rattle.std.specs.Prelude.{if◌then◌else◌}
 use mathlib.Core.Path.{◌≡◌, refl, sym, ap, ◌∙◌}
 use mathlib.Core.Bool.{Bool, true, false, ◌&&◌}
 use mathlib.Core.List.{List, [], ◌∷◌, ◌++◌}
@@ -8,7 +9,7 @@ use borrow.Author.Tests.{leb-true}
 use lib.Dec.{leb}
 use lib.ListN.{length, take, drop}
 use Prim.Native.String.{String}
-use Rattle.lent.specs.Bytes.{if◌then◌else◌, bytes}
+use Rattle.lent.specs.Bytes.{bytes}
 use Rattle.lent.proofs.Laws.{and_left, and_right}
 use Rattle.utf8.specs.Utf8.{is_utf8}
 use Rattle.encode_byte.specs.declared.Escaping.{Escaping}

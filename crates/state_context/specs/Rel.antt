@@ -1,8 +1,8 @@
 -- How the machine's state stands in the code's, and what a function does that keeps it so. Assumes nothing.
-use Rattle.std.specs.Prelude.{◌≡◌, Bool, true, false, not, List, [], ◌∷◌, ℕ, zero, suc, min, ◌≤◌, eqb, length}
+use Rattle.std.specs.Prelude.{◌≡◌, Bool, true, false, not, List, [], ◌∷◌, ℕ, zero, suc, min, ◌≤◌, eqb, length, if◌then◌else◌}
 use Rattle.std.proofs.Math.Option.{Option, none, some}
 use Prim.Native.String.{String}
-use Rattle.lent.specs.Bytes.{if◌then◌else◌, bytes}
+use Rattle.lent.specs.Bytes.{bytes}
 use Rattle.encode_byte.specs.declared.Escaping.{Escaping}
 use Rattle.encode_byte.specs.Byte.{escaping_of}
 use Rattle.event.specs.declared.Event.{Event}

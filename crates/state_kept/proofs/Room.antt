@@ -1,4 +1,5 @@
 -- For callers: where the machine's next state is within the tables, a call can be counted; what is found is there. Assumes nothing.
+use Rattle.std.specs.Prelude.{if◌then◌else◌}
 use mathlib.Core.Path.{◌≡◌, refl, ap, ◌∙◌}
 use mathlib.Core.Bool.{Bool, true, false}
 use mathlib.Core.List.{List, [], ◌∷◌}
@@ -8,7 +9,7 @@ use native.Mathlib.Decide.{dec_lt}
 use borrow.Author.Tests.{ltb-true}
 use lib.Dec.{ltb}
 use lib.ListN.{length}
-use Rattle.lent.specs.Bytes.{if◌then◌else◌, same}
+use Rattle.lent.specs.Bytes.{same}
 use Rattle.lent.proofs.Laws.{and_left, and_right}
 use Rattle.normalize_identifier.specs.declared.Found.{Found}
 use Rattle.normalize_identifier.specs.declared.Found.TheVariants.{At, Nothing}

@@ -1,4 +1,5 @@
 -- Bytes moved up for a text before them, and down for what goes. Assumes nothing.
+use Rattle.std.specs.Prelude.{if◌then◌else◌}
 use mathlib.Core.Path.{◌≡◌, refl, sym, ap, ◌∙◌}
 use mathlib.Core.Bool.{Bool, true, false, ◌&&◌}
 use mathlib.Core.List.{List, [], ◌∷◌, ◌++◌}
@@ -8,7 +9,6 @@ use native.Mathlib.Numerals.{add-one}
 use native.Mathlib.Omega.{arith}
 use lib.Dec.{eqb}
 use lib.ListN.{length, drop, set, get_or, length-append, length-set}
-use Rattle.lent.specs.Bytes.{if◌then◌else◌}
 use Rattle.lent.specs.Fill.{fill, Filled}
 use Rattle.lent.proofs.Laws.{fill-empty, fill_suc, fill-zero, fill_none, byte-below, rest-behind, none, Left, all, step, done}
 use Rattle.machine.specs.Text.{unescape_pipes}

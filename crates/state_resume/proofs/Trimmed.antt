@@ -1,4 +1,5 @@
 -- Code text: the spaces that go at its ends, and how it is written. Assumes nothing.
+use Rattle.std.specs.Prelude.{if◌then◌else◌}
 use mathlib.Core.Path.{◌≡◌, refl, sym, ap, ◌∙◌}
 use mathlib.Core.Bool.{Bool, true, false, true≢false, not, ◌&&◌}
 use mathlib.Core.List.{List, [], ◌∷◌, ◌++◌}
@@ -9,7 +10,6 @@ use borrow.Author.Tests.{eq-eqb, ne_eqb}
 use lib.Dec.{eqb}
 use lib.ListN.{length, take, get_or, length-take}
 use lib.Seq.{take_all, take-take, take_at}
-use Rattle.lent.specs.Bytes.{if◌then◌else◌}
 use Rattle.lent.specs.Fill.{Filled}
 use Rattle.lent.proofs.Laws.{length-filled, take-fill}
 use Rattle.machine.specs.Buffers.{last_or}

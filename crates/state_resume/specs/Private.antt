@@ -1,6 +1,6 @@
 -- What the inner functions answer: no part of a promise. Assumes nothing.
-use Rattle.std.specs.Prelude.{◌≡◌, Bool, false, not, ◌&&◌, List, [], ◌∷◌, ◌++◌, ℕ, ◌+◌, ◌-◌, ◌≤◌, eqb, length, take, drop}
-use Rattle.lent.specs.Bytes.{if◌then◌else◌, all}
+use Rattle.std.specs.Prelude.{◌≡◌, Bool, false, not, ◌&&◌, List, [], ◌∷◌, ◌++◌, ℕ, ◌+◌, ◌-◌, ◌≤◌, eqb, length, take, drop, if◌then◌else◌}
+use Rattle.lent.specs.Bytes.{all}
 use Rattle.lent.specs.Fill.{past, Filled}
 use Rattle.machine.specs.Buffers.{last_or}
 use Rattle.machine.specs.Text.{starts_pipe}

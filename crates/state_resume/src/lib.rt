@@ -1,8 +1,8 @@
 // The newest capture taken off and written: to the page, or behind the capture below it, where its bytes stand already.
 #![tactic(auto)]
 
-ghost use Rattle.std.specs.Prelude.{[], ◌∷◌, ◌++◌, ◌≡◌, ◌+◌, ◌≤◌, ◌<◌, length};
-ghost use Rattle.lent.specs.Bytes.{if◌then◌else◌};
+ghost use Rattle.std.specs.Prelude.{[], ◌∷◌, ◌++◌, ◌≡◌, ◌+◌, ◌≤◌, ◌<◌, length, if◌then◌else◌};
+
 ghost use Rattle.lent.specs.Fill.{fill, Filled};
 ghost use Rattle.state_buffers.specs.Stand.{Resumes};
 ghost use Rattle.state_resume.specs.Written.{around, code_in};

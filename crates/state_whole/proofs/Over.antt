@@ -1,4 +1,5 @@
 -- What no lack says of the totals and the page. Assumes nothing.
+use Rattle.std.specs.Prelude.{if◌then◌else◌}
 use mathlib.Core.Path.{◌≡◌, refl}
 use mathlib.Core.Bool.{Bool, true, false, ◌||◌}
 use mathlib.Core.Option.{Option, none, some}
@@ -7,7 +8,6 @@ use native.Mathlib.Omega.{arith}
 use borrow.Author.Tests.{ltb-false}
 use lib.Dec.{ltb}
 use lib.ListN.{length}
-use Rattle.lent.specs.Bytes.{if◌then◌else◌}
 use Rattle.machine.specs.State.{State}
 use Rattle.machine.specs.Totals.{captured, held, kept, over, most_total}
 

@@ -1,4 +1,5 @@
 -- What a byte's mark says: without one the byte stays and HTML leaves it alone, with one only & and ' stay. Assumes nothing.
+use Rattle.std.specs.Prelude.{if◌then◌else◌}
 use mathlib.Core.Path.{◌≡◌, refl, sym, ap, ◌∙◌}
 use mathlib.Core.Bool.{Bool, true, false, not, ◌&&◌, ◌||◌}
 use mathlib.Core.Logic.{◌⊎◌, inl, inr}
@@ -9,7 +10,7 @@ use native.Mathlib.Omega.{arith}
 use borrow.Author.Tests.{leb-true, le-leb, lt-leb, eqb-true, ne_eqb, not-true, not-false}
 use lib.Dec.{leb, eqb}
 use lib.ListN.{get_or}
-use Rattle.lent.specs.Bytes.{if◌then◌else◌, is_alnum, between}
+use Rattle.lent.specs.Bytes.{is_alnum, between}
 use Rattle.lent.proofs.Laws.{and_left, and_right, or_left, or_right}
 use Rattle.encode_byte.specs.declared.Escaping.{Escaping}
 use Rattle.encode.specs.Encode.{encode_of}

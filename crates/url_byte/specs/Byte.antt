@@ -1,6 +1,6 @@
 -- The bytes of a URL: which stay, and what the others become (`sanitize_uri.rs`). Assumes nothing.
-use Rattle.std.specs.Prelude.{Bool, false, ◌&&◌, ◌||◌, List, [], ◌∷◌, ℕ, ◌+◌, ◌/◌, ◌%◌, eqb, ltb}
-use Rattle.lent.specs.Bytes.{if◌then◌else◌, between, is_alnum}
+use Rattle.std.specs.Prelude.{Bool, false, ◌&&◌, ◌||◌, List, [], ◌∷◌, ℕ, ◌+◌, ◌/◌, ◌%◌, eqb, ltb, if◌then◌else◌}
+use Rattle.lent.specs.Bytes.{between, is_alnum}
 
 -- RULES R11.1: the bytes that stay as they are
 abbrev pub is_kept : ℕ → Bool

@@ -1,6 +1,6 @@
 -- Said for inner functions, no part of what a byte becomes. Assumes nothing.
-use Rattle.std.specs.Prelude.{Bool, not, ◌&&◌, ◌||◌, List, [], ◌∷◌, ℕ, eqb, ltb}
-use Rattle.lent.specs.Bytes.{if◌then◌else◌, between, is_alnum}
+use Rattle.std.specs.Prelude.{Bool, not, ◌&&◌, ◌||◌, List, [], ◌∷◌, ℕ, eqb, ltb, if◌then◌else◌}
+use Rattle.lent.specs.Bytes.{between, is_alnum}
 use Rattle.url_byte.specs.Byte.{stays, url_byte}
 
 -- a byte that ends a run: one that does not stay, and & and ', which HTML may encode
@@ -13,7 +13,7 @@ mark_of b c d = if is_apart b && not (eqb b 37 && (is_alnum c && is_alnum d)) th
 
 -- the kept bytes as bits: those below 64, and those up to 127
 unfoldable pub kept_mask : ℕ → ℕ
-kept_mask b = if ltb b 64 then 0xafffffda00000000 else if ltb b 128 then 0x47fffffe87ffffff else 0
+kept_mask b = if ltb b 64 then 0xafffffda00000000 else (if ltb b 128 then 0x47fffffe87ffffff else 0)
 
 -- what the first byte becomes, looking on behind it
 unfoldable pub byte_of : List ℕ → List ℕ

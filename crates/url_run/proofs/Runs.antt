@@ -1,4 +1,5 @@
 -- The run before the first mark, and the marks behind it: what the lowest bit of a word says. Assumes nothing.
+use Rattle.std.specs.Prelude.{if◌then◌else◌}
 use mathlib.Core.Path.{◌≡◌, refl, sym, ap, ◌∙◌}
 use mathlib.Core.Bool.{Bool, true, false, not, ◌&&◌}
 use mathlib.Core.Logic.{◌⊎◌, inl, inr}
@@ -11,7 +12,7 @@ use lib.Dec.{eqb}
 use lib.ListN.{length, take, drop, get_or}
 use lib.Pow.{pow-add}
 use lib.Seq.{drop-drop}
-use Rattle.lent.specs.Bytes.{if◌then◌else◌, is_alnum}
+use Rattle.lent.specs.Bytes.{is_alnum}
 use Rattle.lent.specs.Fill.{zeros}
 use Rattle.url_byte.specs.Private.{is_apart, mark_of}
 use Rattle.url_run.specs.Private.{marks_of, word_of, run_of}

@@ -1,11 +1,12 @@
 -- What is due along a text, whether or not it is valid. Assumes nothing.
+use Rattle.std.specs.Prelude.{if◌then◌else◌}
 use mathlib.Core.Path.{◌≡◌, refl}
 use mathlib.Core.Bool.{Bool, true, false}
 use mathlib.Core.List.{List, [], ◌∷◌, ◌++◌}
 use Prim.Native.Nat.{ℕ, ◌-◌}
 use native.Mathlib.Omega.{arith}
 use lib.Dec.{T, leb, ltb, leb→le}
-use Rattle.lent.specs.Bytes.{if◌then◌else◌, between}
+use Rattle.lent.specs.Bytes.{between}
 use Rattle.utf8.specs.declared.Due.{Due}
 use Rattle.utf8.specs.declared.Due.TheVariants.{First, More, Wrong}
 use Rattle.utf8.specs.Table.{after_first, after_more, next, is_whole}

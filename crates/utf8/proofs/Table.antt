@@ -1,4 +1,5 @@
 -- What is read off a first byte, each rule one test computed over the bytes, and what any other byte leaves due. Assumes nothing.
+use Rattle.std.specs.Prelude.{if◌then◌else◌}
 use mathlib.Core.Path.{◌≡◌, refl, sym, ap, ◌∙◌}
 use mathlib.Core.Bool.{Bool, true, false, ◌&&◌, ◌||◌, and-false}
 use mathlib.Core.List.{[], ◌∷◌}
@@ -12,7 +13,7 @@ use lib.Dec.{T, eqb, leb, ltb, eqb→eq}
 use lib.ListN.{get_or}
 use mir.Syntax.{w8}
 use mir.Val.{Fits}
-use Rattle.lent.specs.Bytes.{if◌then◌else◌, between}
+use Rattle.lent.specs.Bytes.{between}
 use Rattle.utf8.specs.declared.Due.{Due}
 use Rattle.utf8.specs.declared.Due.TheVariants.{First, More, Wrong}
 use Rattle.utf8.specs.Table.{after_first, next, length_of}
@@ -23,7 +24,7 @@ use Rattle.lent.proofs.Computed.{and_left, and_right, all_below, computed, range
 
 -- 0, 2, 3 or 4 ones
 by_ones : ℕ → ℕ
-by_ones n = if eqb n 0 then 1 else if eqb n 1 then 0 else if ltb 4 n then 0 else n
+by_ones n = if eqb n 0 then 1 else (if eqb n 1 then 0 else (if ltb 4 n then 0 else n))
 
 -- the tie: the leading zeros of the byte's complement are the ones of the byte
 counted : (b : ℕ) → b < 256 → by_ones (count_leading_zeros 8 (255 - b)) ≡ length_of b

@@ -1,6 +1,6 @@
 -- UTF-8 by RFC 3629. Assumes nothing.
-use Rattle.std.specs.Prelude.{Bool, ◌&&◌, ◌||◌, List, [], ◌∷◌, ◌++◌, ℕ, ◌+◌, ◌/◌, ◌%◌, T, ltb, length, get_or}
-use Rattle.lent.specs.Bytes.{if◌then◌else◌, between}
+use Rattle.std.specs.Prelude.{Bool, ◌&&◌, ◌||◌, List, [], ◌∷◌, ◌++◌, ℕ, ◌+◌, ◌/◌, ◌%◌, T, ltb, length, get_or, if◌then◌else◌}
+use Rattle.lent.specs.Bytes.{between}
 use Rattle.utf8.specs.declared.Due.{Due}
 use Rattle.utf8.specs.declared.Due.TheVariants.{First}
 pub use Rattle.utf8.specs.Table.{next, is_whole}
@@ -44,9 +44,9 @@ tail n = 0x80 + n % 64
 unfoldable pub char_of : ℕ → List ℕ
 char_of c =
     if ltb c 0x80 then c ∷ []
-    else if ltb c 0x800 then (0xC0 + c / 64) ∷ tail c ∷ []
-    else if ltb c 0x10000 then (0xE0 + c / 4096) ∷ tail (c / 64) ∷ tail c ∷ []
-    else (0xF0 + c / 262144) ∷ tail (c / 4096) ∷ tail (c / 64) ∷ tail c ∷ []
+    else (if ltb c 0x800 then (0xC0 + c / 64) ∷ tail c ∷ []
+    else (if ltb c 0x10000 then (0xE0 + c / 4096) ∷ tail (c / 64) ∷ tail c ∷ []
+    else (0xF0 + c / 262144) ∷ tail (c / 4096) ∷ tail (c / 64) ∷ tail c ∷ []))
 
 -- U+FFFD
 abbrev pub replacement : List ℕ

@@ -1,6 +1,6 @@
 -- The pieces in which inner functions write a call and a backreference: no part of a promise. Assumes nothing.
-use Rattle.std.specs.Prelude.{List, ◌++◌, ℕ, ltb}
-use Rattle.lent.specs.Bytes.{if◌then◌else◌, bytes}
+use Rattle.std.specs.Prelude.{List, ◌++◌, ℕ, ltb, if◌then◌else◌}
+use Rattle.lent.specs.Bytes.{bytes}
 use Rattle.machine.specs.Text.{decimal}
 use Rattle.machine.specs.Footnote.{again_text}
 use Rattle.machine.specs.Section.{arrow, sup_text, backreference}

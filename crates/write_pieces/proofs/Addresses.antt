@@ -1,9 +1,10 @@
 -- URLs as the options say, and an address behind `mailto:`. Assumes nothing.
+use Rattle.std.specs.Prelude.{if◌then◌else◌}
 use mathlib.Core.Path.{◌≡◌, refl, ◌∙◌}
 use mathlib.Core.Bool.{Bool, true, false, ◌&&◌, ◌||◌}
 use mathlib.Core.List.{List, ◌++◌}
 use Prim.Native.Nat.{ℕ}
-use Rattle.lent.specs.Bytes.{if◌then◌else◌, bytes}
+use Rattle.lent.specs.Bytes.{bytes}
 use Rattle.lent.specs.Fill.{Filled}
 use Rattle.lent.proofs.Laws.{both}
 use Rattle.encode.specs.Encode.{encode_byte, encode_of}

@@ -1,4 +1,5 @@
 -- An item value's digits one by one, and the attributes that are written. Assumes nothing.
+use Rattle.std.specs.Prelude.{if◌then◌else◌}
 use mathlib.Core.Path.{◌≡◌, refl}
 use mathlib.Core.Bool.{Bool, true, false}
 use mathlib.Core.List.{List, []}
@@ -12,7 +13,7 @@ use mir.Val.{Fits}
 use mir.Syntax.{w64}
 use lib.Dec.{lit<, lit≤}
 use lib.ListN.{length, drop, get_or, drop_of_length-le}
-use Rattle.lent.specs.Bytes.{if◌then◌else◌, bytes, all}
+use Rattle.lent.specs.Bytes.{bytes, all}
 use Rattle.lent.specs.Fill.{Filled}
 use Rattle.lent.proofs.Laws.{next, none, both}
 use Rattle.character_reference.specs.Reference.{digit_value, is_digit_of, are_digits, number_from, from_digits}

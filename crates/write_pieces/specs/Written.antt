@@ -1,6 +1,5 @@
 -- What is written where the machine may stop, and what an inner function reads. Assumes nothing.
-use Rattle.std.specs.Prelude.{List, [], ℕ}
-use Rattle.lent.specs.Bytes.{if◌then◌else◌}
+use Rattle.std.specs.Prelude.{List, [], ℕ, if◌then◌else◌}
 use Rattle.character_reference.specs.Reference.{are_digits, from_digits}
 use Rattle.machine.specs.Outcome.{Outcome, stop, go}
 use Rattle.write_pieces.specs.declared.Start.{Start}

@@ -1,4 +1,5 @@
 -- One piece behind the other on a page that stands in the buffer. Assumes nothing.
+use Rattle.std.specs.Prelude.{if◌then◌else◌}
 use mathlib.Core.Path.{◌≡◌, refl, sym, ◌∙◌}
 use mathlib.Core.Bool.{Bool, true, false, true≢false}
 use mathlib.Core.List.{List, [], ◌++◌}
@@ -10,7 +11,7 @@ use lib.Dec.{ltb}
 use lib.ListN.{length, take, drop, length-drop}
 use lib.Seq.{take_all}
 use Rattle.lent.specs.Bytes as B
-use Rattle.lent.specs.Bytes.{if◌then◌else◌, bytes}
+use Rattle.lent.specs.Bytes.{bytes}
 use Rattle.lent.specs.Fill.{Filled}
 use Rattle.lent.proofs.Laws.{both, and_left}
 use Rattle.machine.specs.declared.Ending.{Ending}

@@ -1,6 +1,6 @@
 -- The footnote section as it is written behind a page, where no capture is open: no part of a promise. Assumes nothing.
-use Rattle.std.specs.Prelude.{List, [], ◌∷◌, ◌++◌, ℕ, ◌-◌, take, drop}
-use Rattle.lent.specs.Bytes.{if◌then◌else◌, bytes}
+use Rattle.std.specs.Prelude.{List, [], ◌∷◌, ◌++◌, ℕ, ◌-◌, take, drop, if◌then◌else◌}
+use Rattle.lent.specs.Bytes.{bytes}
 use Rattle.machine.specs.declared.Ending.{Ending}
 use Rattle.machine.specs.declared.Fixed.{Fixed}
 use Rattle.machine.specs.Outcome.{Outcome, go, ◌>>=◌}
