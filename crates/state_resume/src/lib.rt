@@ -2,7 +2,6 @@
 #![tactic(auto)]
 
 ghost use Rattle.std.specs.Prelude.{[], ◌∷◌, ◌++◌, ◌≡◌, ◌+◌, ◌≤◌, ◌<◌, length, if◌then◌else◌};
-
 ghost use Rattle.lent.specs.Fill.{fill, Filled};
 ghost use Rattle.state_buffers.specs.Stand.{Resumes};
 ghost use Rattle.state_resume.specs.Written.{around, code_in};
