@@ -13,6 +13,8 @@ use machine::{Ending, Options};
 use std::alloc::{AllocError, Global};
 use std::io::{ErrorKind, Read};
 use std::process::ExitCode;
+use std::rt::Clock;
+use std::time::Duration;
 use std::{io, thread};
 
 // The most bytes of a page that it writes.
@@ -20,6 +22,9 @@ const PAGE_ROOM: usize = 65536;
 
 // The most bytes that it reads at once.
 const READ_ROOM: usize = 65536;
+
+// How long it waits where the input has nothing yet.
+const MILLISECONDS: u64 = 1;
 
 // The length of a page, or a refusal's number and place; or nothing, where the input could not be read.
 #[derive(Clone, Copy)]
@@ -57,7 +62,7 @@ fn main(rt: HostRuntime) -> ExitCode {
 
 // The page of the note whose bundle the input brings.
 fn page_of_input(
-    rt: &(impl Eprint + AllocGlobal),
+    rt: &(impl Eprint + AllocGlobal + Clock),
     input: &mut impl Read,
     text: &mut [u8],
     events: &mut [u8],
@@ -77,7 +82,7 @@ fn page_of_input(
 
 // Reads until the input ends. A proved loop has to end, and nothing says that the input does: no run uses up so many turns.
 fn read_all(
-    rt: &(impl Eprint + AllocGlobal),
+    rt: &(impl Eprint + AllocGlobal + Clock),
     input: &mut impl Read,
     text: &mut [u8],
     events: &mut [u8],
@@ -90,7 +95,7 @@ fn read_all(
         let last = turn.input;
         match last {
             Input::Some => reader = turn.reader,
-            Input::Again => thread::yield_now(),
+            Input::Again => thread::sleep(rt, Duration::from_millis(MILLISECONDS)),
             Input::End => return turn,
             Input::Failed => return turn,
         }
