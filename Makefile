@@ -2,14 +2,14 @@
 # `make command` builds the command over it, which is installed along with it.
 PREFIX = /usr/local
 VERSION = 0.2.0
-LIBRARY = target/staticlib/libexports.a
+LIBRARY = crates/exports/out/libexports.a
 COMMAND = rust/target/release/notepage
 to = $(DESTDIR)$(PREFIX)
 
 .PHONY: library command test install
 
 library:
-	rt staticlib exports
+	cd crates/exports && rt lib
 
 command:
 	cd rust && cargo build --offline --release --bin notepage

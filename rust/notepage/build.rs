@@ -1,15 +1,18 @@
 //! Finds the proved static library, or has it made. In this order: libnotepage.a in the folder that NOTEPAGE_LIB_DIR
-//! names; target/staticlib/libexports.a of this repository, made anew by `rt` where it is missing or older than a
+//! names; crates/exports/out/libexports.a of this repository, made anew by `rt` where it is missing or older than a
 //! source.
 use std::path::{Path, PathBuf};
 use std::process::{exit, Command};
 use std::time::SystemTime;
 use std::{env, fs};
 
-const ARCHIVE: &str = "target/staticlib/libexports.a";
+const EXPORTS: &str = "crates/exports";
+const ARCHIVE: &str = "crates/exports/out/libexports.a";
+/// The folders of a crate that hold its sources: what `rt` makes stands beside them.
+const PARTS: [&str; 3] = ["src", "specs", "proofs"];
 const HOW: &str =
     "put libnotepage.a into a folder and name it in NOTEPAGE_LIB_DIR, or install the Rattle toolchain and run \
-                   `rt staticlib exports` at the top of the repository (a quarter of an hour on two cores, once)";
+                   `rt lib` in its folder crates/exports (an hour on four cores, once)";
 
 fn main() {
     println!("cargo:rerun-if-changed=build.rs");
@@ -33,13 +36,22 @@ fn main() {
 fn of_repository() -> PathBuf {
     let root = Path::new(&variable("CARGO_MANIFEST_DIR")).join("../..");
     let archive = root.join(ARCHIVE);
-    let sources = root.join("crates");
-    println!("cargo:rerun-if-changed={}", sources.display());
+    let sources = sources(&root.join("crates"));
+    for folder in &sources {
+        println!("cargo:rerun-if-changed={}", folder.display());
+    }
     let made = fs::metadata(&archive).and_then(|found| found.modified()).ok();
-    if made.is_none() || made < newest(&sources) {
+    if made.is_none() || made < sources.iter().filter_map(|folder| newest(folder)).max() {
         make(&root, made.is_some());
     }
     archive
+}
+
+/// The folders with the sources of all crates.
+fn sources(crates: &Path) -> Vec<PathBuf> {
+    let folders = fs::read_dir(crates).into_iter().flatten().flatten();
+    let parts = folders.flat_map(|entry| PARTS.map(|part| entry.path().join(part)));
+    parts.filter(|part| part.is_dir()).collect()
 }
 
 /// When the newest file below a folder was changed.
@@ -53,13 +65,13 @@ fn newest(folder: &Path) -> Option<SystemTime> {
 }
 
 fn make(root: &Path, old: bool) {
-    println!("cargo:warning=notepage: proving the library by `rt staticlib exports`: up to a quarter of an hour");
-    match Command::new("rt").args(["staticlib", "exports"]).current_dir(root).output() {
+    println!("cargo:warning=notepage: proving the library by `rt lib`: up to an hour");
+    match Command::new("rt").arg("lib").current_dir(root.join(EXPORTS)).output() {
         Ok(made) if made.status.success() => {}
         Ok(made) => {
             let said = String::from_utf8_lossy(&made.stdout).into_owned() + &String::from_utf8_lossy(&made.stderr);
             eprintln!("{said}");
-            fail("`rt staticlib exports` did not prove the library; what it said stands above");
+            fail("`rt lib` in crates/exports did not prove the library; what it said stands above");
         }
         Err(_) if old => {
             fail(&format!("{ARCHIVE} is older than a source, and there is no `rt` to prove it again; {HOW}"))

@@ -1,10 +1,8 @@
-"""How the programs of this repository are made and started: proved and built by `rt`, then run as `rt` runs them."""
-import functools, os, platform, re, subprocess, sys, threading, time
+"""How the programs of this repository are made and started: proved and built by `rt`, which leaves each in its crate's out/."""
+import functools, os, re, subprocess, sys, threading, time
 
 ROOT = os.path.dirname(os.path.dirname(os.path.dirname(os.path.abspath(__file__))))
-KIT = os.environ.get('RATTLE_HOME', '/opt/rattle')
 MOST_WORDS = 60  # lines of the prover that are shown
-TOOLS = os.path.join(KIT, 'on', platform.machine(), 'toolchain')
 
 
 def stop(sentence, status=1):
@@ -58,11 +56,16 @@ def write_file(name, data):
         raise
 
 
+def folder(name):
+    """Where a crate stands."""
+    return os.path.join(ROOT, 'crates', name)
+
+
 def dependencies(listed):
     """The crates of a list such as crates.txt, each with the crates that it names."""
     with open(listed) as lines:
         rows = [line.split('#')[0].partition(':') for line in lines]
-    return {name.strip(): words.split() for name, colon, words in rows if colon}
+    return {words.split()[0]: named.split() for words, colon, named in rows if colon}
 
 
 def reached(names, listed=os.path.join(ROOT, 'crates.txt')):
@@ -77,10 +80,10 @@ def reached(names, listed=os.path.join(ROOT, 'crates.txt')):
 
 
 class Progress:
-    """A line on standard error that moves: which crate of how many, seconds, and how long it may take still."""
+    """A line on standard error that moves: how many crates were proved of at most so many, seconds, and how long it may take still."""
 
     def __init__(self, count):
-        self.count, self.done, self.proved, self.name = count, 0, 0, ''
+        self.count, self.done, self.name = count, 0, ''
         self.began, self.over = time.time(), threading.Event()
         self.moves = sys.stderr.isatty()
         self.thread = threading.Thread(target=self.move, daemon=True)
@@ -88,8 +91,8 @@ class Progress:
 
     def line(self):
         seconds = int(time.time() - self.began)
-        left = f', about {int(seconds / self.proved * (self.count - self.done))} s to go' if self.proved else ''
-        return f'proving: {self.done} of {self.count} crates{self.name}, {seconds} s{left}'
+        left = f', at most about {int(seconds / self.done * (self.count - self.done))} s to go' if self.done else ''
+        return f'proving: {self.done} of at most {self.count} crates{self.name}, {seconds} s{left}'
 
     def show(self):
         sys.stderr.write(f'\r\x1b[K{self.line()}' if self.moves else f'{self.line()}\n')
@@ -99,11 +102,9 @@ class Progress:
         while self.moves and not self.over.wait(1):
             self.show()
 
-    def take(self, name, unchanged):
+    def take(self, name):
         self.done, self.name = self.done + 1, f', last {name}'
-        self.proved += not unchanged
-        if not unchanged:
-            self.show()
+        self.show()
 
     def end(self):
         self.over.set()
@@ -116,79 +117,54 @@ def prove(names):
     """Has `rt` prove and build these programs with all that they stand on. What is unchanged since is not proved again."""
     progress = Progress(len(reached(names)[1]))
     try:
-        run = subprocess.Popen(['rt', 'check', *names], cwd=ROOT, stdout=subprocess.PIPE, stderr=subprocess.STDOUT, text=True)
+        for name in names:
+            build(name, progress)
+    finally:
+        progress.end()
+
+
+def build(name, progress):
+    """`rt run` builds a program and runs it, here on no input: each of them ends at once then."""
+    apart = {'stdin': subprocess.DEVNULL, 'stdout': subprocess.DEVNULL, 'stderr': subprocess.PIPE}
+    try:
+        run = subprocess.Popen(['rt', 'run'], cwd=folder(name), text=True, errors='replace', **apart)
     except FileNotFoundError:
         progress.end()
         stop('there is no `rt` here: install the Rattle toolchain')
     try:
-        words = followed(run.stdout, progress)
+        words, proved = followed(run.stderr, progress)
         status = run.wait()
     finally:
-        progress.end()
         if run.poll() is None:
             run.terminate()
             run.wait()
-    if status:
-        stop(''.join(words[-MOST_WORDS:]) + f'`rt check {" ".join(names)}` did not prove all: its own words stand above')
+    if status and not proved:
+        progress.end()
+        stop(''.join(words[-MOST_WORDS:]) + f'`rt run` in crates/{name} did not prove all: its own words stand above')
 
 
 def followed(lines, progress):
-    """What `rt` says of crates that are not proved, and behind them."""
-    kept, current = [], []
+    """What `rt` says of crates that are not proved, and whether it came to run the program."""
+    current, proved = [], False
     for line in lines:
-        found = re.match(r'rt: (\w+) proved \((.*)\)', line)
+        found = re.match(r'crate (\w+): modules loaded=\d+ checked=([1-9])', line)
         if found:
+            progress.take(found[1])
+        if line.startswith('logic=proved'):
             current.clear()
-            progress.take(found[1], 'unchanged' in found[2])
-            continue
-        current += [line] * (not re.search(': note: |^library |NOT PROVED: its dependency', line))
-        if ' NOT PROVED' in line:
-            kept, current = kept + current, []
-    return kept + current
+        proved = proved or line.startswith('rt: running ')
+        current += [line] * (not re.search(': note: |^library |^statements |: proved$|^checked ', line))
+    return current, proved
 
 
 @functools.lru_cache(None)
 def command(name):
     """The words that start a program: proved and built first where it, or what it stands on, has changed."""
     prove([name])
-    return started(os.path.join(ROOT, 'target', 'bin', name))
-
-
-def started(program):
-    emulator = os.path.join(TOOLS, 'bin', 'qemu-x86_64')
-    loader = [os.path.join(TOOLS, 'lib', 'ld-linux-x86-64.so.2'), '--library-path', os.path.join(TOOLS, 'lib'), program]
-    return [emulator] * os.path.exists(emulator) + loader
+    return [os.path.join(folder(name), 'out', name)]
 
 
 def unproved(name):
-    """The words that start a program which is compiled as its sources stand, without any proof."""
+    """The words that start a program which is compiled anew as its sources stand, without any proof. It ends within a minute."""
     print(f'compiling {name} WITHOUT PROOF: what it says is a look, no promise', file=sys.stderr)
-    folder = os.path.join(ROOT, 'target', 'unproved')
-    program = os.path.join(folder, name)
-    own = os.path.dirname(TOOLS)
-    tools = toolchain_that_keeps(program, os.path.join(folder, 'tools'))
-    words = [os.path.join(own, 'bin', 'rattle-cases'), '--toolchain', tools, '--link', os.path.join(KIT, 'lib', 'libos_c.a')]
-    words += [os.path.join(ROOT, 'crates', name, 'src', 'main.rt'), '--crate-name', name]
-    for library in ['std', *reached([name])[0]]:
-        source = os.path.join(ROOT, 'crates', library, 'src', 'lib.rt')
-        source = source if os.path.exists(source) else os.path.join(KIT, 'libs', library, 'src', 'lib.rt')
-        words += ['--lib', f'{library}={source}'] * (library != name)
-    made = subprocess.run(words, capture_output=True, text=True)
-    if not os.path.exists(program):
-        stop(made.stdout + made.stderr + f'{name} does not compile: the compiler\'s own words stand above')
-    return started(program)
-
-
-def toolchain_that_keeps(program, folder):
-    """The kit's toolchain, but that its linker keeps the first program that it makes, and then ends the run."""
-    os.makedirs(os.path.join(folder, 'bin'), exist_ok=True)
-    linker = os.path.join(folder, 'bin', 'ld.lld')
-    for part in ['lib', os.path.join('bin', 'clang'), os.path.join('bin', 'llvm-ar')]:
-        if not os.path.lexists(os.path.join(folder, part)):
-            os.symlink(os.path.join(TOOLS, part), os.path.join(folder, part))
-    with open(linker, 'w') as out:
-        out.write(f'#!/bin/sh\n\'{TOOLS}/bin/ld.lld\' "$@" && cp program \'{program}\'\nexit 1\n')
-    os.chmod(linker, 0o755)
-    if os.path.exists(program):
-        os.remove(program)
-    return folder
+    return ['env', '-C', folder(name), 'rt', 'try', '--steps', '1']

@@ -9,6 +9,7 @@ use call_links_answer::Listed;
 use character_reference::Names;
 use encode_byte::escaping_of;
 use machine::{Ending, Options};
+use std::io::Read;
 
 // The most that a request may bring or ask for.
 const MOST_TEXT: usize = 262144;
@@ -36,32 +37,46 @@ struct Request {
     edition: u32,
 }
 
-fn main() {
+fn main(rt: HostRuntime) {
     let mut input = [0u8; 393216];
     let mut answer = [0u8; 524312];
     let mut work = [0u8; 131072];
-    serve(&mut input, &mut answer, &mut work);
+    let mut stdin = rt.stdin();
+    serve(&rt, &mut stdin, &mut input, &mut answer, &mut work);
 }
 
-// A proved loop has to end, and nothing says that the input does: it counts down from a number that no run uses up.
-fn serve(input: &mut [u8], answer: &mut [u8], work: &mut [u8]) {
-    let mut turns = u64::MAX;
-    while turns > 0 && serve_one(input, answer, work) {
-        turns -= 1;
+// A proved loop has to end, and nothing says that the input does: no run uses up so many turns.
+fn serve(
+    rt: &impl Print,
+    stdin: &mut impl Read,
+    input: &mut [u8],
+    answer: &mut [u8],
+    work: &mut [u8],
+) {
+    for _ in 0..u64::MAX {
+        if !serve_one(rt, stdin, input, answer, work) {
+            return;
+        }
     }
 }
 
 // Reads one request and answers it; false where the run ends.
-fn serve_one(input: &mut [u8], answer: &mut [u8], work: &mut [u8]) -> bool {
+fn serve_one(
+    rt: &impl Print,
+    stdin: &mut impl Read,
+    input: &mut [u8],
+    answer: &mut [u8],
+    work: &mut [u8],
+) -> bool {
     let mut header = [0u8; 32];
-    if io::read_full(0, &mut header) != 32 {
+    if stdin.read_exact(&mut header).is_err() {
         return false;
     }
     let request = read_request(&header);
     if !is_op(request.op) {
         return false;
     }
-    answer_request(request, input, answer, work)
+    answer_request(rt, stdin, request, input, answer, work)
 }
 
 fn is_op(op: u8) -> bool {
@@ -86,7 +101,14 @@ fn read_request(header: &[u8; 32]) -> Request {
 }
 
 // Takes the parts of the buffers that the request needs. A request past a limit ends the run.
-fn answer_request(r: Request, input: &mut [u8], answer: &mut [u8], work: &mut [u8]) -> bool {
+fn answer_request(
+    rt: &impl Print,
+    stdin: &mut impl Read,
+    r: Request,
+    input: &mut [u8],
+    answer: &mut [u8],
+    work: &mut [u8],
+) -> bool {
     let text = r.text;
     let events = r.events;
     let room = r.room;
@@ -113,6 +135,8 @@ fn answer_request(r: Request, input: &mut [u8], answer: &mut [u8], work: &mut [u
         return false;
     }
     exchange(
+        rt,
+        stdin,
         r,
         &mut input[0..text + events],
         &mut answer[0..24 + room],
@@ -121,8 +145,15 @@ fn answer_request(r: Request, input: &mut [u8], answer: &mut [u8], work: &mut [u
 }
 
 // Reads the text and the events, makes the call, and writes the answer with the whole buffer that was lent.
-fn exchange(r: Request, input: &mut [u8], answer: &mut [u8], work: &mut [u8]) -> bool {
-    if io::read_full(0, input) != input.len() {
+fn exchange(
+    rt: &impl Print,
+    stdin: &mut impl Read,
+    r: Request,
+    input: &mut [u8],
+    answer: &mut [u8],
+    work: &mut [u8],
+) -> bool {
+    if stdin.read_exact(input).is_err() {
         return false;
     }
     let text = r.text;
@@ -132,85 +163,100 @@ fn exchange(r: Request, input: &mut [u8], answer: &mut [u8], work: &mut [u8]) ->
     if answer.len() < 24 {
         return false;
     }
-    respond(r, text, input, answer, work)
+    respond(rt, r, text, input, answer, work)
 }
 
-fn respond(r: Request, n: usize, input: &[u8], answer: &mut [u8], work: &mut [u8]) -> bool
+fn respond(
+    rt: &impl Print,
+    r: Request,
+    n: usize,
+    input: &[u8],
+    answer: &mut [u8],
+    work: &mut [u8],
+) -> bool
     requires { (n ≤ length input.now) × (24 ≤ length answer.old) }
 {
     let op = r.op;
     match op {
-        6 => check(&input[0..n], &input[n..], answer),
-        7 => build(r, &input[0..n], &input[n..], answer, work),
-        8 => read(r, &input[0..n], answer, work),
-        9 => write_bundle(r, &input[0..n], &input[n..], answer),
-        10 => read_parts(r, &input[0..n], &input[n..], answer, work),
-        11 => list(r, &input[0..n], &input[n..], answer),
-        12 => normalize(r, &input[0..n], answer),
-        _ => write(r, &input[0..n], answer),
+        6 => check(rt, &input[0..n], &input[n..], answer),
+        7 => build(rt, r, &input[0..n], &input[n..], answer, work),
+        8 => read(rt, r, &input[0..n], answer, work),
+        9 => write_bundle(rt, r, &input[0..n], &input[n..], answer),
+        10 => read_parts(rt, r, &input[0..n], &input[n..], answer, work),
+        11 => list(rt, r, &input[0..n], &input[n..], answer),
+        12 => normalize(rt, r, &input[0..n], answer),
+        _ => write(rt, r, &input[0..n], answer),
     }
 }
 
 // The calls that write a text.
-fn write(r: Request, text: &[u8], answer: &mut [u8]) -> bool
+fn write(rt: &impl Print, r: Request, text: &[u8], answer: &mut [u8]) -> bool
     requires { 24 ≤ length answer.old }
 {
     let written = call(r, text, &mut answer[24..]);
     put_head(&mut answer[0..24], written_head(written, r.room));
-    io::write_all(1, answer)
+    rt.write_all(answer).is_ok()
 }
 
 // The call that percent-encodes a URL: the visits are the second number.
-fn normalize(r: Request, url: &[u8], answer: &mut [u8]) -> bool
+fn normalize(rt: &impl Print, r: Request, url: &[u8], answer: &mut [u8]) -> bool
     requires { 24 ≤ length answer.old }
 {
     let normalized = call_normalize(url, &mut answer[24..]);
     put_head(&mut answer[0..24], normalized_head(normalized, r.room));
-    io::write_all(1, answer)
+    rt.write_all(answer).is_ok()
 }
 
 // The checker, which is lent no buffer.
-fn check(text: &[u8], events: &[u8], answer: &mut [u8]) -> bool
+fn check(rt: &impl Print, text: &[u8], events: &[u8], answer: &mut [u8]) -> bool
     requires { 24 ≤ length answer.old }
 {
     let checked = page::check(text, events);
     put_head(&mut answer[0..24], checked_head(checked));
-    io::write_all(1, &answer[0..24])
+    rt.write_all(&answer[0..24]).is_ok()
 }
 
 // The build, which is lent work bytes too.
-fn build(r: Request, text: &[u8], events: &[u8], answer: &mut [u8], work: &mut [u8]) -> bool
+fn build(
+    rt: &impl Print,
+    r: Request,
+    text: &[u8],
+    events: &[u8],
+    answer: &mut [u8],
+    work: &mut [u8],
+) -> bool
     requires { 24 ≤ length answer.old }
 {
     let built = call_build(r, text, events, &mut answer[24..], work);
     let head = built_head(built, r.room, state_of(work));
     put_head(&mut answer[0..24], head);
-    io::write_all(1, answer)
+    rt.write_all(answer).is_ok()
 }
 
 // The reader, which is lent two buffers: the second one's bytes follow the first's.
-fn read(r: Request, bundle: &[u8], answer: &mut [u8], events: &mut [u8]) -> bool
+fn read(rt: &impl Print, r: Request, bundle: &[u8], answer: &mut [u8], events: &mut [u8]) -> bool
     requires { 24 ≤ length answer.old }
 {
     let answered = call_reader(bundle, &mut answer[24..], events);
     put_head(&mut answer[0..24], read_head(answered, r.room, r.work));
-    if !io::write_all(1, answer) {
+    if rt.write_all(answer).is_err() {
         return false;
     }
-    io::write_all(1, events)
+    rt.write_all(events).is_ok()
 }
 
 // The writer.
-fn write_bundle(r: Request, text: &[u8], events: &[u8], answer: &mut [u8]) -> bool
+fn write_bundle(rt: &impl Print, r: Request, text: &[u8], events: &[u8], answer: &mut [u8]) -> bool
     requires { 24 ≤ length answer.old }
 {
     let packed = call_writer(r.edition, text, events, &mut answer[24..]);
     put_head(&mut answer[0..24], packed_head(packed, r.room));
-    io::write_all(1, answer)
+    rt.write_all(answer).is_ok()
 }
 
 // The reader in parts. While more is wanted there is nothing to show of the buffers.
 fn read_parts(
+    rt: &impl Print,
     r: Request,
     bytes: &[u8],
     lengths: &[u8],
@@ -224,29 +270,30 @@ fn read_parts(
     match so_far {
         Progress::More => {
             put_head(&mut answer[0..24], more_head());
-            io::write_all(1, &answer[0..24])
+            rt.write_all(&answer[0..24]).is_ok()
         }
         Progress::Done(a) => {
             put_head(&mut answer[0..24], read_head(a, r.room, r.work));
-            if !io::write_all(1, answer) {
+            if rt.write_all(answer).is_err() {
                 return false;
             }
-            io::write_all(1, events)
+            rt.write_all(events).is_ok()
         }
     }
 }
 
 // A list of links, which takes and leaves words.
-fn list(r: Request, text: &[u8], ends: &[u8], answer: &mut [u8]) -> bool
+fn list(rt: &impl Print, r: Request, text: &[u8], ends: &[u8], answer: &mut [u8]) -> bool
     requires { 24 ≤ length answer.old }
 {
     let mut words = [0u32; 32768];
     let mut lengths = [0u32; 131072];
-    list_with(r, text, ends, answer, &mut words, &mut lengths)
+    list_with(rt, r, text, ends, answer, &mut words, &mut lengths)
 }
 
 // Takes the parts of the two lists that the request needs.
 fn list_with(
+    rt: &impl Print,
     r: Request,
     text: &[u8],
     ends: &[u8],
@@ -264,11 +311,25 @@ fn list_with(
     if words.len() < count {
         return false;
     }
-    list_words(r, text, &words[0..count], answer, &mut lengths[0..places])
+    list_words(
+        rt,
+        r,
+        text,
+        &words[0..count],
+        answer,
+        &mut lengths[0..places],
+    )
 }
 
 // The lengths follow the output.
-fn list_words(r: Request, text: &[u8], ends: &[u32], answer: &mut [u8], lengths: &mut [u32]) -> bool
+fn list_words(
+    rt: &impl Print,
+    r: Request,
+    text: &[u8],
+    ends: &[u32],
+    answer: &mut [u8],
+    lengths: &mut [u32],
+) -> bool
     requires { 24 ≤ length answer.old }
 {
     let listed = call_links(
@@ -282,10 +343,10 @@ fn list_words(r: Request, text: &[u8], ends: &[u32], answer: &mut [u8], lengths:
         &mut answer[0..24],
         listed_head(listed, r.room, lengths.len()),
     );
-    if !io::write_all(1, answer) {
+    if rt.write_all(answer).is_err() {
         return false;
     }
-    write_words(lengths)
+    write_words(rt, lengths)
 }
 
 // Words, little endian, as many as there is place for; how many they are.
@@ -303,13 +364,13 @@ fn read_words(bytes: &[u8], words: &mut [u32]) -> usize {
     i
 }
 
-fn write_words(words: &[u32]) -> bool {
+fn write_words(rt: &impl Print, words: &[u32]) -> bool {
     let mut bytes = [0u8; 4096];
-    write_through(&mut bytes, words)
+    write_through(rt, &mut bytes, words)
 }
 
 // As many words at once as these bytes hold.
-fn write_through(bytes: &mut [u8], words: &[u32]) -> bool {
+fn write_through(rt: &impl Print, bytes: &mut [u8], words: &[u32]) -> bool {
     let mut i = 0;
     while i < words.len() {
         let n = bundle_block::least(WORDS_AT_ONCE, words.len() - i);
@@ -317,7 +378,7 @@ fn write_through(bytes: &mut [u8], words: &[u32]) -> bool {
             return false;
         }
         put_words(bytes, &words[i..i + n]);
-        if !io::write_all(1, &bytes[0..4 * n]) {
+        if rt.write_all(&bytes[0..4 * n]).is_err() {
             return false;
         }
         i += n;

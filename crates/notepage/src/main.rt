@@ -9,11 +9,22 @@ use bundle_parts::{Progress, Reader};
 use bundle_read::{Answer, LEAST_ROOM};
 use call_build_answer::{Built, LEAST_WORK};
 use character_reference::Names;
-use libc::{STDIN_FILENO, STDOUT_FILENO};
 use machine::{Ending, Options};
+use std::alloc::{AllocError, Global};
+use std::io::{ErrorKind, Read};
+use std::process::ExitCode;
+use std::rt::Clock;
+use std::time::Duration;
+use std::{io, thread};
 
 // The most bytes of a page that it writes.
 const PAGE_ROOM: usize = 65536;
+
+// The most bytes that it reads at once.
+const READ_ROOM: usize = 65536;
+
+// How long it waits where the input has nothing yet.
+const MILLISECONDS: u64 = 1;
 
 // The length of a page, or a refusal's number and place; or nothing, where the input could not be read.
 #[derive(Clone, Copy)]
@@ -39,48 +50,52 @@ pub struct Turn {
     pub reader: Reader,
 }
 
-fn main() {
+fn main(rt: HostRuntime) -> ExitCode {
     let mut text = [0u8; LEAST_ROOM];
     let mut events = [0u8; LEAST_ROOM];
     let mut out = [0u8; PAGE_ROOM];
     let mut work = [0u8; LEAST_WORK];
-    let shown = page_of_input(&mut text, &mut events, &mut out, &mut work);
-    show(shown, &out);
+    let mut input = rt.stdin();
+    let shown = page_of_input(&rt, &mut input, &mut text, &mut events, &mut out, &mut work);
+    show(&rt, shown, &out)
 }
 
-// The page of the note whose bundle standard input brings.
-fn page_of_input(text: &mut [u8], events: &mut [u8], out: &mut [u8], work: &mut [u8]) -> Shown
+// The page of the note whose bundle the input brings.
+fn page_of_input(
+    rt: &(impl Eprint + AllocGlobal + Clock),
+    input: &mut impl Read,
+    text: &mut [u8],
+    events: &mut [u8],
+    out: &mut [u8],
+    work: &mut [u8],
+) -> Shown
     ensures { Shows text.old events.old out.old work.old out.new result }
 {
-    let turn = read_all(text, events);
-    let input = turn.input;
-    let Input::End = input else {
+    let turn = read_all(rt, input, text, events);
+    let last = turn.input;
+    let Input::End = last else {
         return Shown::Unread;
     };
     let reader = turn.reader;
     page_of(reader, text, events, out, work)
 }
 
-// Reads until the input ends. A proved loop has to end, and nothing says that the input does: it counts down from a number that no run uses up.
-fn read_all(text: &mut [u8], events: &mut [u8]) -> Turn
+// Reads until the input ends. A proved loop has to end, and nothing says that the input does: no run uses up so many turns.
+fn read_all(
+    rt: &(impl Eprint + AllocGlobal + Clock),
+    input: &mut impl Read,
+    text: &mut [u8],
+    events: &mut [u8],
+) -> Turn
     ensures { CameTo text.old events.old text.new events.new result }
 {
     let mut reader = page::bundle_reader();
-    let mut turns = u64::MAX;
-    while 0 < turns {
-        turns -= 1;
-        let turn = read_some(reader, text, events);
-        let input = turn.input;
-        match input {
-            Input::Some => {
-                let next = turn.reader;
-                reader = next;
-                continue;
-            }
-            Input::Again => {
-                libc::sched_yield();
-                continue;
-            }
+    for _ in 0..u64::MAX {
+        let turn = read_some(rt, input, reader, text, events);
+        let last = turn.input;
+        match last {
+            Input::Some => reader = turn.reader,
+            Input::Again => thread::sleep(rt, Duration::from_millis(MILLISECONDS)),
             Input::End => return turn,
             Input::Failed => return turn,
         }
@@ -92,40 +107,47 @@ fn read_all(text: &mut [u8], events: &mut [u8]) -> Turn
 }
 
 // One read, of as many bytes as are there.
-fn read_some(reader: Reader, text: &mut [u8], events: &mut [u8]) -> Turn
+fn read_some(
+    rt: &(impl Eprint + AllocGlobal),
+    input: &mut impl Read,
+    reader: Reader,
+    text: &mut [u8],
+    events: &mut [u8],
+) -> Turn
     ensures { Turned reader text.old events.old text.new events.new result }
 {
-    let mut buffer = io::large_buffer();
-    let got = libc::read(STDIN_FILENO, &mut buffer);
-    if got < 0 {
-        return Turn {
-            input: failed(),
+    let mut buffer = [0u8; READ_ROOM];
+    match input.read(&mut buffer) {
+        Err(error) => Turn {
+            input: failed(rt, &error),
             reader,
-        };
-    }
-    if got == 0 {
-        return Turn {
+        },
+        Ok(0) => Turn {
             input: Input::End,
             reader,
-        };
-    }
-    let n = io::count(got, &buffer);
-    Turn {
-        input: Input::Some,
-        reader: page::feed_bundle(reader, &buffer[..n], text, events),
+        },
+        Ok(n) => Turn {
+            input: Input::Some,
+            reader: page::feed_bundle(reader, &buffer[..n], text, events),
+        },
     }
 }
 
 // A read that was interrupted, or has nothing yet, is tried again; any other is said on standard error.
-fn failed() -> Input
+fn failed(rt: &(impl Eprint + AllocGlobal), error: &io::Error) -> Input
     ensures { no_bytes result ≡ true }
 {
-    let error = os::errno();
-    if (error == libc::EINTR) | (error == libc::EAGAIN) {
-        return Input::Again;
+    match error.kind() {
+        ErrorKind::Interrupted | ErrorKind::WouldBlock => Input::Again,
+        _ => {
+            fail(
+                rt,
+                "standard input can't be read, so there is no page",
+                error,
+            );
+            Input::Failed
+        }
     }
-    os::fail(b"standard input can't be read, so there is no page");
-    Input::Failed
 }
 
 // The page of what the reader has taken.
@@ -214,38 +236,44 @@ fn shown_of(b: Built) -> Shown
     }
 }
 
-fn show(s: Shown, out: &[u8]) {
+// Whether the page or the refusal could be told: only then the program ends with 0.
+fn show(rt: &(impl Print + Eprint + AllocGlobal), s: Shown, out: &[u8]) -> ExitCode {
     match s {
-        Shown::Unread => {}
-        Shown::Refused(number, place) => told(refuse(number, place)),
+        Shown::Unread => ExitCode::FAILURE,
+        Shown::Refused(number, place) => told(rt, println!(rt; "refused {number} at {place}")),
         Shown::Page(n) => {
-            if n <= out.len() {
-                told(io::write_all(STDOUT_FILENO, &out[0..n]));
+            if out.len() < n {
+                return ExitCode::FAILURE;
             }
+            told(rt, rt.write_all(&out[0..n]))
         }
     }
 }
 
-// Says on standard error where not all was written: a program has no exit status.
-fn told(written: bool) {
-    if !written {
-        os::fail(b"not all was written on standard output");
+// Says on standard error where not all was written.
+fn told(rt: &(impl Eprint + AllocGlobal), written: io::Result<()>) -> ExitCode {
+    match written {
+        Ok(()) => ExitCode::SUCCESS,
+        Err(error) => {
+            fail(rt, "not all was written on standard output", &error);
+            ExitCode::FAILURE
+        }
     }
 }
 
-// The line of a refusal; whether all of it was written.
-fn refuse(number: u32, place: usize) -> bool {
-    if !io::write_all(STDOUT_FILENO, b"refused ") {
-        return false;
+// A line on standard error: what failed, and the system's words for why. Where standard error takes none, it is lost.
+fn fail(rt: &(impl Eprint + AllocGlobal), what: &str, error: &io::Error) {
+    let _ = match words_of(rt.alloc(), error) {
+        Ok(words) => eprintln!(rt; "{what}: {words}"),
+        Err(_) => eprintln!(rt; "{what}"),
+    };
+}
+
+// The error's words, without the number that std puts behind the system's.
+fn words_of(alloc: Global, error: &io::Error) -> Result<String, AllocError> {
+    let whole = format!(in alloc; "{error}")?;
+    match whole.split_once(" (os error ") {
+        Some((words, _)) => String::from_str(alloc, words),
+        None => String::from_str(alloc, whole.as_str()),
     }
-    if !io::print_decimal(STDOUT_FILENO, number as u64) {
-        return false;
-    }
-    if !io::write_all(STDOUT_FILENO, b" at ") {
-        return false;
-    }
-    if !io::print_decimal(STDOUT_FILENO, place as u64) {
-        return false;
-    }
-    io::write_all(STDOUT_FILENO, b"\n")
 }

@@ -1,0 +1,7 @@
+-- Option by option. Assumes nothing.
+use Rattle.exports.proofs.Laws.{options}
+use borrow.Author.Rules.{rules}
+use Rattle.exports.proofs.options_of.Goals as goal
+
+pub returns : goal.returns
+returns c = search (options, rules)

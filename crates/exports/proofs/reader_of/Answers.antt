@@ -1,0 +1,7 @@
+-- A reader from its numbers. Assumes nothing.
+use Rattle.exports.proofs.Laws.{reader-given}
+use borrow.Author.Rules.{rules}
+use Rattle.exports.proofs.reader_of.Goals as goal
+
+pub returns : goal.returns
+returns c = search (reader-given, rules)

@@ -1,0 +1,12 @@
+-- Refused at the end, or built. Assumes nothing.
+use Rattle.notepage.proofs.Laws.{end_more, end_refused, end_read}
+use Rattle.notepage.proofs.page_of.Goals as goal
+
+pub returns-in_default : goal.returns-in_default
+returns-in_default c = search end_more
+
+pub returns-in-Refused : goal.returns-in-Refused
+returns-in-Refused c = search end_refused
+
+pub returns-in-Bundle : goal.returns-in-Bundle
+returns-in-Bundle c = search end_read
