@@ -72,7 +72,7 @@ OWN = 'cases: lent event\nforced: lent event machine cases\n'
 UNWANTED = ('CodeText', 'Examples', 'Outcomes', 'Pushes')
 # question k is answered yes where the options force 2 k + 1, and no where they force 2 k + 2
 ANSWERED = '''test (forced k q) t s = if eqb t.options.forced (k + k + 1) then go true else \
-if eqb t.options.forced (k + k + 2) then go false else test q t s
+(if eqb t.options.forced (k + k + 2) then go false else test q t s)
 test (is f) t s ='''
 OPTIONS = ' options_with : (apostrophes html protocol images : Bool) → Ending → Options\noptions_with a h p i e ='
 OPTIONS_OF = ' options_of : ℕ → (apostrophes html protocol images : Bool) → Ending → Options\noptions_of m a h p i e ='
@@ -81,7 +81,7 @@ CHANGES = [
     ('machine/specs/Test.antt', '  is_empty_item : Test\n', '  is_empty_item : Test\n  forced : ℕ → Test → Test\n'),
     ('machine/specs/Test.antt', 'test (is f) t s =', ANSWERED),
     ('machine/specs/Test.antt', 'ℕ, eqb, leb, ltb, length}\n',
-     'ℕ, ◌+◌, eqb, leb, ltb, length}\nuse Rattle.lent.specs.Bytes.{if◌then◌else◌}\n'),
+     'ℕ, ◌+◌, eqb, leb, ltb, length, if◌then◌else◌}\n'),
     ('machine/proofs/Answers.antt', 'older e = record {', 'older e = record { forced = 0;'),
     ('machine/proofs/Answers.antt', f'{OPTIONS}\n    record {{', f'{OPTIONS_OF}\n    record {{ forced = m;'),
     ('machine/proofs/Answers.antt', 'abbrev pub options :', f'abbrev pub{OPTIONS} options_of 0 a h p i e\n\nabbrev pub options :'),

@@ -38,8 +38,8 @@ turn_of n at depth e =
     if leb e.name 4 then On depth
     else (if is_enter e then On (depth + 1)
     else (if eqb depth 0 then Out
-    else (if eqb depth))) at && eqb e.name n then Own e.from.0 e.to.0
-    else On (depth - 1)
+    else (if eqb depth at && eqb e.name n then Own e.from.0 e.to.0
+    else On (depth - 1))))
 
 -- the slice of an element's own part n: es are the events behind its enter, or behind what was passed
 unfoldable pub own_part : (n at depth : ℕ) → List Event → Part

@@ -61,10 +61,10 @@ slice_holds seen name s =
     if eqb name 3 then is_ending s
     else (if eqb name 4 then is_ending s
     else (if eqb name 26 then is_item_value s
-    else (if eqb name 14 then seen.sequence))) || is_level s
+    else (if eqb name 14 then seen.sequence || is_level s
     else (if eqb name 18 then is_underline s
     else (if eqb name 11 then is_some (reference_of seen.marker s)
-    else true))
+    else true)))))
 
 -- the bytes from..to; as many of them as there are
 abbrev pub part : List ℕ → (from to : ℕ) → List ℕ
