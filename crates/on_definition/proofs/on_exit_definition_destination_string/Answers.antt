@@ -1,0 +1,8 @@
+-- As of a resource.
+use borrow.Author.Rules.{rules}
+use Rattle.machine.specs.OnDefinition.{on_exit_definition_destination_string}
+use Rattle.on_definition.proofs.on_exit_definition_destination_string.Goals as goal
+
+pub returns : goal.returns
+unfolding on_exit_definition_destination_string
+returns c = search rules
