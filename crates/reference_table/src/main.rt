@@ -132,6 +132,6 @@ fn main(rt: HostRuntime) -> io::Result<()> {
     write_runs(&rt, alloc, 16, 0x120000)?;
     write_runs(&rt, alloc, 10, 10_000_000)?;
     let mut lines = Vec::new(alloc);
-    rt.reader().take(MOST_LINES).read_to_end(&mut lines)?;
+    rt.stdin().take(MOST_LINES).read_to_end(&mut lines)?;
     write_names(&rt, &lines)
 }
