@@ -1,17 +1,17 @@
 -- What the public calls go by, and that two results that meet a contract are equal. Assumes nothing.
 use Rattle.std.specs.Prelude.{if◌then◌else◌}
 use mathlib.Core.Path.{◌≡◌, refl, sym, ap, ◌∙◌}
-use mathlib.Core.Bool.{Bool, true, false, not}
+use mathlib.Core.Bool.{Bool, true, false}
 use mathlib.Core.Logic.{◌⊎◌, ⊎_elim, inl, inr}
-use mathlib.Core.List.{List, [], ◌++◌}
+use mathlib.Core.List.{List, ◌++◌}
 use Prim.Native.Nat.{ℕ, ◌+◌, ◌-◌, ◌≤◌, ◌<◌}
 use native.Mathlib.Decide.{dec_le}
 use native.Mathlib.Nat.{zero-add}
 use native.Mathlib.Omega.{arith}
 use borrow.Author.Tests.{lt-ltb, le-ltb, le-leb, lt-leb}
-use lib.Dec.{leb, ltb}
+use lib.Dec.{ltb}
 use lib.ListN.{length, take}
-use Rattle.lent.specs.Fill.{fill, past, zeros, Filled}
+use Rattle.lent.specs.Fill.{zeros, Filled}
 use Rattle.lent.proofs.Laws.{length-filled, take-fill}
 use Rattle.utf8.specs.Utf8.{is_utf8}
 use Rattle.call_text_answer.specs.declared.Taken.{Taken}

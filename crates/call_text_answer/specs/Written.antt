@@ -1,5 +1,5 @@
 -- Calls that write a text (RULES R7.7): their answers, the answers' numbers, and every byte afterwards. Assumes nothing.
-use Rattle.std.specs.Prelude.{◌≡◌, Bool, not, List, ◌++◌, ℕ, ◌-◌, leb, ltb, length, take, if◌then◌else◌}
+use Rattle.std.specs.Prelude.{◌≡◌, not, List, ◌++◌, ℕ, ◌-◌, leb, ltb, length, take, if◌then◌else◌}
 use Rattle.lent.specs.Fill.{zeros}
 use Rattle.utf8.specs.Utf8.{is_utf8}
 use Rattle.call_text_answer.specs.declared.Taken.{Taken}

@@ -6,7 +6,7 @@ use Prim.Native.Nat.{ℕ, ◌+◌, ◌-◌, ◌≤◌, ◌<◌}
 use native.Mathlib.Omega.{arith}
 use lib.ListN.{length, take, drop, get_or, length-drop, drop_of_length-le, take-append-drop}
 use lib.Seq.{drop-drop, take_all}
-use Rattle.lent.specs.Bytes.{bytes, each, any}
+use Rattle.lent.specs.Bytes.{each, any}
 use Rattle.lent.specs.Fill.{Filled}
 use Rattle.lent.proofs.Laws.{Left, last, next, each_append, each-kept}
 use Rattle.encode_byte.specs.declared.Escaping.{Escaping}

@@ -1,7 +1,7 @@
 -- The visits of a URL that is UTF-8, character by character: with `none` these equations leave no other number. Assumes nothing.
-use mathlib.Core.Path.{◌≡◌, refl, ap, ◌∙◌}
+use mathlib.Core.Path.{◌≡◌, refl, ap}
 use mathlib.Core.Bool.{true, false}
-use mathlib.Core.List.{List, [], ◌∷◌, ◌++◌}
+use mathlib.Core.List.{List, ◌∷◌, ◌++◌}
 use Prim.Native.Nat.{ℕ, zero, suc, ◌+◌, ◌-◌, ◌/◌, ◌≤◌, ◌<◌}
 use native.Mathlib.Omega.{arith}
 use borrow.Author.Tests.{le-leb, lt-leb, ne_eqb}
@@ -12,7 +12,6 @@ use Rattle.utf8.proofs.Table.{lead}
 use Rattle.utf8.proofs.Codes.{least, above, tails, spelled, counted, low, high}
 use Rattle.url_byte.specs.Byte.{two_alnum}
 use Rattle.normalize_visits.specs.Visits.{behind_of, visits_from, visits_of}
-use Rattle.normalize_visits.proofs.Laws.{passed}
 
 -- ---- a % with a triple, and one without
 

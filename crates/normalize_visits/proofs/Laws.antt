@@ -1,17 +1,15 @@
 -- What the code of `normalize_visits` goes by, and that there are at most as many visits as bytes. Assumes nothing.
-use mathlib.Core.Path.{◌≡◌, refl, sym, ap, ◌∙◌}
-use mathlib.Core.Bool.{Bool, true, false, ◌&&◌}
+use mathlib.Core.Path.{◌≡◌, refl, ap, ◌∙◌}
+use mathlib.Core.Bool.{Bool, true, false}
 use mathlib.Core.List.{List, [], ◌∷◌}
 use Prim.Native.Nat.{ℕ, zero, suc, ◌+◌, ◌-◌, ◌≤◌, ◌<◌}
 use native.Mathlib.Omega.{arith}
 use borrow.Author.Tests.{ne_eqb}
-use lib.ListN.{length, drop, get_or, length-drop, drop_of_length-le}
+use lib.ListN.{length, drop, get_or, drop_of_length-le}
 use lib.Seq.{drop-drop}
-use Rattle.lent.specs.Bytes.{is_alnum}
 use Rattle.lent.proofs.Laws.{next}
 use Rattle.utf8.specs.Utf8.{length_of}
 use Rattle.url_byte.specs.Byte.{two_alnum}
-use Rattle.url_byte.proofs.Laws.{two-short, two-there}
 use Rattle.normalize_visits.specs.Visits.{behind_of, visits_from, visits_of}
 
 -- ---- at most as many as bytes

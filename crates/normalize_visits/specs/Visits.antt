@@ -1,5 +1,5 @@
 -- How many characters the walk over a URL visits, RULES R11.7 (`normalize` of `sanitize_uri.rs`). Assumes nothing.
-use Rattle.std.specs.Prelude.{Bool, false, ◌&&◌, List, [], ◌∷◌, ℕ, zero, suc, ◌-◌, eqb, if◌then◌else◌}
+use Rattle.std.specs.Prelude.{◌&&◌, List, [], ◌∷◌, ℕ, zero, suc, ◌-◌, eqb, if◌then◌else◌}
 use Rattle.utf8.specs.Utf8.{length_of}
 use Rattle.url_byte.specs.Byte.{two_alnum}
 

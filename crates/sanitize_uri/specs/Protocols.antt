@@ -1,5 +1,5 @@
 -- URLs whose scheme must be listed, RULES R11.5 (`sanitize_with_protocols`). Assumes nothing.
-use Rattle.std.specs.Prelude.{Bool, true, false, List, [], ◌∷◌, ℕ, ◌+◌, eqb, take, if◌then◌else◌}
+use Rattle.std.specs.Prelude.{Bool, true, List, [], ◌∷◌, ℕ, ◌+◌, eqb, take, if◌then◌else◌}
 use Rattle.lent.specs.Bytes.{bytes, one_of, listed, mapped, lower}
 use Rattle.sanitize_uri.specs.declared.Colon.{Colon}
 use Rattle.sanitize_uri.specs.declared.Colon.TheVariants.{At, Missing}

@@ -3,15 +3,15 @@ use Rattle.std.specs.Prelude.{if◌then◌else◌}
 use mathlib.Core.Path.{◌≡◌, refl, sym, ap, ◌∙◌}
 use mathlib.Core.Bool.{Bool, true, false, not, ◌&&◌, ◌||◌}
 use mathlib.Core.Logic.{◌⊎◌, inl, inr}
-use mathlib.Core.List.{List, [], ◌∷◌, append-nil}
-use Prim.Native.Nat.{ℕ, ◌≤◌, ◌<◌}
+use mathlib.Core.List.{List, [], ◌∷◌}
+use Prim.Native.Nat.{ℕ, ◌≤◌}
 use native.Mathlib.Decide.{dec_lt, ℕ_discrete}
 use native.Mathlib.Omega.{arith}
 use borrow.Author.Tests.{leb-true, le-leb, lt-leb, eqb-true, ne_eqb, not-true, not-false}
 use lib.Dec.{leb, eqb}
 use lib.ListN.{get_or}
 use Rattle.lent.specs.Bytes.{is_alnum, between}
-use Rattle.lent.proofs.Laws.{and_left, and_right, or_left, or_right}
+use Rattle.lent.proofs.Laws.{and_left, and_right}
 use Rattle.encode_byte.specs.declared.Escaping.{Escaping}
 use Rattle.encode.specs.Encode.{encode_of}
 use Rattle.url_byte.specs.Byte.{is_kept, two_alnum, stays, url_byte}

@@ -1,5 +1,4 @@
 -- The loop's invariant: what is left is to append the bytes from `i` on. Assumes nothing.
-use Prim.Native.Nat.{◌-◌}
 use Rattle.lent.proofs.Laws.{all, step}
 use Rattle.encode.proofs.Laws.{block_more, block_last}
 use borrow.Author.Rules.{rules}

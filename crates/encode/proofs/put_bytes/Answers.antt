@@ -1,5 +1,4 @@
 -- The loop's invariant: what is left is to append the bytes from `i` on. Assumes nothing.
-use Prim.Native.Nat.{◌-◌}
 use Rattle.lent.proofs.Laws.{all, step, done}
 use Rattle.encode.proofs.Laws.{byte_more, byte-end}
 use Rattle.encode.proofs.put_bytes.Goals as goal

@@ -1,5 +1,4 @@
 -- The loop's invariant: what is left is to append the part's bytes from `i` on. Assumes nothing.
-use Prim.Native.Nat.{◌-◌}
 use Rattle.lent.proofs.Laws.{all, step, done}
 use Rattle.normalize_uri.proofs.Laws.{part-more, part_end}
 use Rattle.normalize_uri.proofs.put_part.Goals as goal

@@ -1,5 +1,4 @@
 -- The loop's invariant: what is left is to append the bytes from `i` on, whose marks are left too. Assumes nothing.
-use Prim.Native.Nat.{◌-◌}
 use Rattle.lent.proofs.Laws.{all, step, done}
 use Rattle.normalize_uri.proofs.Laws.{part_end}
 use Rattle.normalize_uri.proofs.Runs.{rest-marks, rest-moved, rest-marked}

@@ -1,5 +1,4 @@
 -- The loop's invariant: what is left is to append the URL's bytes from `i` on. Assumes nothing.
-use Prim.Native.Nat.{◌-◌}
 use Rattle.lent.proofs.Laws.{all, step, last}
 use Rattle.normalize_uri.proofs.Laws.{block_more}
 use Rattle.normalize_uri.proofs.Runs.{window}

@@ -1,5 +1,4 @@
 -- The loop's invariant: the visits so far and those from `i` on are all of them. Assumes nothing.
-use Prim.Native.Nat.{◌-◌}
 use native.Mathlib.Nat.{zero-add}
 use Rattle.normalize_visits.proofs.Laws.{goes_on, ends, ended}
 use borrow.Author.Rules.{rules}

@@ -1,5 +1,4 @@
 -- The loop's invariant: what is left of both decides. Assumes nothing.
-use Prim.Native.Nat.{◌-◌}
 use Rattle.sanitize_uri.proofs.Schemes.{other_length, word-differs, word_next, word_end}
 use Rattle.sanitize_uri.proofs.is_word.Goals as goal
 

@@ -1,6 +1,5 @@
 -- The loop's invariant: the colon is looked for from `i` on. Assumes nothing.
 use mathlib.Core.Path.{refl}
-use Prim.Native.Nat.{◌-◌}
 use Rattle.sanitize_uri.specs.Protocols.{colon_of}
 use Rattle.sanitize_uri.proofs.Schemes.{colon-found, colon-barred, colon-next, colon-missing}
 use Rattle.sanitize_uri.proofs.scheme_colon.Goals as goal

@@ -1,5 +1,4 @@
 -- The loop's invariant: what was seen and what is left make up the answer. Assumes nothing.
-use Prim.Native.Nat.{◌-◌}
 use Rattle.lent.proofs.Laws.{any-start, any-more, any-end}
 use Rattle.url_run.proofs.has_odd.Goals as goal
 

@@ -1,5 +1,4 @@
 -- The loop's invariant: the first `k` marks are set as they have to be. Assumes nothing.
-use Prim.Native.Nat.{◌-◌}
 use Rattle.url_run.proofs.Laws.{mark-none, mark-more, mark-end}
 use borrow.Author.Rules.{rules}
 use Rattle.url_run.proofs.mark_all.Goals as goal
