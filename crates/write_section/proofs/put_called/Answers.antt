@@ -1,0 +1,15 @@
+-- The label and the body are those of the call. Assumes nothing.
+use Rattle.write_section.proofs.Tables.{called-unordered, called-outside, called-nothing, called-found}
+use Rattle.write_section.proofs.put_called.Goals as goal
+
+pub returns-then-to-from : goal.returns-then-to-from
+returns-then-to-from c = search called-unordered
+
+pub returns-then-text-to : goal.returns-then-text-to
+returns-then-text-to c = search called-outside
+
+pub returns-in-At : goal.returns-in-At
+returns-in-At c = search called-found
+
+pub returns-in-Nothing : goal.returns-in-Nothing
+returns-in-Nothing c = search called-nothing
