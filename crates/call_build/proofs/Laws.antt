@@ -3,13 +3,10 @@ use mathlib.Core.Path.{◌≡◌, refl, sym, subst, ◌∙◌}
 use mathlib.Core.List.{List, [], ◌∷◌}
 use Prim.Native.Nat.{ℕ}
 use native.Mathlib.Omega.{arith}
-use denote.Enum.Declared.{tag_of}
-use types.Run.{OneOf, miss}
 use lib.ListN.{length, take, length-take}
 use Rattle.event.specs.Event.{events_of}
 use Rattle.check_rules.proofs.Meets.{yes-meets}
 use Rattle.check_list.specs.declared.Checked.{Checked}
-use Rattle.check_list.specs.contracts.Checked.{the_type}
 use Rattle.check_list.specs.declared.Checked.TheVariants.{Yes}
 use Rattle.check_list.specs.Checked.{check_of}
 use Rattle.machine.specs.declared.Options.{Options}
