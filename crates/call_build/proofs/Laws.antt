@@ -3,13 +3,10 @@ use mathlib.Core.Path.{◌≡◌, refl, sym, subst, ◌∙◌}
 use mathlib.Core.List.{List, [], ◌∷◌}
 use Prim.Native.Nat.{ℕ}
 use native.Mathlib.Omega.{arith}
-use denote.Enum.Declared.{tag_of}
-use types.Run.{OneOf, miss}
 use lib.ListN.{length, take, length-take}
 use Rattle.event.specs.Event.{events_of}
 use Rattle.check_rules.proofs.Meets.{yes-meets}
 use Rattle.check_list.specs.declared.Checked.{Checked}
-use Rattle.check_list.specs.contracts.Checked.{the_type}
 use Rattle.check_list.specs.declared.Checked.TheVariants.{Yes}
 use Rattle.check_list.specs.Checked.{check_of}
 use Rattle.machine.specs.declared.Options.{Options}
@@ -36,16 +33,12 @@ runs text events o y =
 
 -- ---- refusals 1 to 7
 
--- the code's else: any variant but the first
-not_yes : (c : Checked) → OneOf (1 ∷ 2 ∷ 3 ∷ 4 ∷ 5 ∷ 6 ∷ 7 ∷ []) (tag_of the_type c) → c ≡ Yes → ⊥
-not_yes c h e = miss (1 ∷ 2 ∷ 3 ∷ 4 ∷ 5 ∷ 6 ∷ 7 ∷ []) 0 tt (subst (λ (x : Checked). OneOf (1 ∷ 2 ∷ 3 ∷ 4 ∷ 5 ∷ 6 ∷ 7 ∷ []) (tag_of the_type x)) e h)
-
-pub refused : {text events out work out' work' : List ℕ} {o : Options} {c : Checked} {r : Built} → c ≡ checked_of text events (length work) → OneOf (1 ∷ 2 ∷ 3 ∷ 4 ∷ 5 ∷ 6 ∷ 7 ∷ []) (tag_of the_type c)
+pub refused : {text events out work out' work' : List ℕ} {o : Options} {c : Checked} {r : Built} → c ≡ checked_of text events (length work) → (c ≡ Yes → ⊥)
     → Leaves (Refused c) 0 out work out' work' r
     → Builds text events o out work out' work' r
 refused {text} {events} {out} {work} {out'} {o = o} {c} p h f =
     record {
-      ended = subst (λ (x : Built). Ends text events o (length out) (length work) out' x) (sym f.answer) (sym p, not_yes c h, refl, refl, f.bytes ∙ wiped out);
+      ended = subst (λ (x : Built). Ends text events o (length out) (length work) out' x) (sym f.answer) (sym p, h, refl, refl, f.bytes ∙ wiped out);
       cleared = f.cleared;
     }
 
