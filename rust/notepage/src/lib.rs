@@ -132,7 +132,7 @@ pub fn escape<'a>(text: &[u8], escaping: Escaping, out: &'a mut [u8]) -> Result<
     let answer =
         unsafe { raw::notepage_escape(text.as_ptr(), text.len(), escaping.bits(), out.as_mut_ptr(), out.len()) };
     let escaped = &out[..answer.length()?];
-    // SAFETY: `Wrote` says that the text is UTF-8 where there is an answer, and that these bytes are `encodeOf` of it:
+    // SAFETY: `Wrote` says that the text is UTF-8 where there is an answer, and that these bytes are `encode_of` of it:
     // the theorem `encoded` (crates/machine_clean/proofs/Encoded.antt) says that they are UTF-8 then.
     Ok(unsafe { core::str::from_utf8_unchecked(escaped) })
 }
@@ -209,7 +209,7 @@ pub fn normalize<'a>(url: &[u8], out: &'a mut [u8]) -> Result<Normalized<'a>, Re
     let answer = unsafe { raw::notepage_normalize(url.as_ptr(), url.len(), out.as_mut_ptr(), out.len()) };
     let raw::Normalized { number, value, visits } = answer;
     let made = &out[..raw::Answer { number, value }.length()?];
-    // SAFETY: `HasNormalized` says that these bytes are `normalizeOf` of the URL: the theorem `normalized`
+    // SAFETY: `HasNormalized` says that these bytes are `normalize_of` of the URL: the theorem `normalized`
     // (crates/machine_clean/proofs/Urls.antt) says that they are UTF-8, whatever its bytes.
     let url = unsafe { core::str::from_utf8_unchecked(made) };
     Ok(Normalized { url, visits })
