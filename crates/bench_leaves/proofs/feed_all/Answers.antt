@@ -1,5 +1,4 @@
 -- The loop's invariant: the bytes before `at` have been fed. Assumes nothing.
-use Prim.Native.Nat.{◌-◌}
 use Rattle.bench_leaves.proofs.Cuts.{cut-none, cut-more, cut-end}
 use borrow.Author.Rules.{rules}
 use Rattle.bench_leaves.proofs.feed_all.Goals as goal
