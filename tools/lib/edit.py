@@ -60,24 +60,22 @@ def edited(edit, crates=CRATES):
     return files
 
 
-def listed(line, crates, order):
-    """A line of crates.txt as a copy of these crates has it, or nothing. A crate's own check says nothing about what is
-    there for the gate's order alone."""
-    head, colon, uses = line.partition('#')[0].partition(':')
-    left_out = [] if order else line.partition('# order:')[2].split()
-    return f'{head}: {" ".join(use for use in uses.split() if use not in left_out)}\n' if colon and head.split()[0] in crates else ''
+def listed(line, crates):
+    """A line of crates.txt, if a copy of these crates has it."""
+    head, colon, _ = line.partition('#')[0].partition(':')
+    return f'{line}\n' if colon and head.split()[0] in crates else ''
 
 
-def copied(folder, crates, order=True):
+def copied(folder, crates):
     """These crates and all that they stand on, in a folder outside the repository: `rt ci` refuses a copy within. What `rt`
     has proved of them stays proved there."""
     shutil.rmtree(folder, ignore_errors=True)
     folder.mkdir(parents=True)
     lines = (ROOT / 'crates.txt').read_text().splitlines()
     every = [line.partition(':')[0].split()[0] for line in lines if line.partition('#')[0].strip()]
-    (folder / 'crates.txt').write_text(''.join(listed(line, every, order) for line in lines))
+    (folder / 'crates.txt').write_text(''.join(listed(line, every) for line in lines))
     needed = reached(crates, folder / 'crates.txt')[1]
-    (folder / 'crates.txt').write_text(''.join(listed(line, needed, order) for line in lines))
+    (folder / 'crates.txt').write_text(''.join(listed(line, needed) for line in lines))
     for crate in needed:
         shutil.copytree(CRATES / crate, folder / 'crates' / crate, ignore=shutil.ignore_patterns('out'))
 
