@@ -5,12 +5,10 @@ use Prim.Native.Nat.{ℕ, ◌+◌, ◌-◌, ◌≤◌}
 use native.Mathlib.Omega.{arith}
 use lib.ListN.{length, take, drop}
 use lib.Seq.{take-add, take-length}
-use Rattle.bundle_read.specs.declared.Answer.{Answer}
-use Rattle.bundle_read.specs.Read.{number_of, answer_of}
-use Rattle.bundle_parts.specs.declared.Progress.{Progress}
-use Rattle.bundle_parts.specs.declared.Progress.TheVariants.{More, Done}
+use Rattle.std.specs.Prelude.{Some, None}
+use Rattle.bundle_read.specs.Read.{Answer, number_of, answer_of}
 use Rattle.bundle_parts.specs.declared.Reader.{Reader}
-use Rattle.bundle_parts.specs.Feed.{stand_of, start_of, feed_of, end_of}
+use Rattle.bundle_parts.specs.Feed.{Progress, stand_of, start_of, feed_of, end_of}
 use Rattle.bundle_parts.specs.Late.{call_late}
 use Rattle.bundle_parts.specs.Parts.{HasReadLate}
 use Rattle.bundle_parts.proofs.Joined.{fed-snoc, joined_snoc}
@@ -38,14 +36,14 @@ module _ (bundle t e t₁ e₁ t₂ e₂ : List ℕ) (r r' : Reader) {q : Progre
   late : HasReadLate bundle t e (stand_of r' t₂ e₂)
   late = rw (h, c.stands, ← (c.joins ∙ take-length bundle)) (ended t e c.parts)
 
-  pub late-number : {a : Answer} {n : ℕ} → q ≡ Done a → n ≡ number_of a → HasNumberLate bundle t e t₂ e₂ n
+  pub late-number : {a : Answer} {n : ℕ} → q ≡ Some a → n ≡ number_of a → HasNumberLate bundle t e t₂ e₂ n
   late-number {a} p m =
-      let d : Done (answer_of (call_late bundle (length t) (length e))) ≡ q = sym (s ∙ late.answer) in
+      let d : Some (answer_of (call_late bundle (length t) (length e))) ≡ q = sym (s ∙ late.answer) in
       let g : a ≡ answer_of (call_late bundle (length t) (length e)) = cc in
       record { answer = m ∙ ap number_of g; text = late.text; events = late.events }
 
-  pub never-more : {n : ℕ} → q ≡ More → HasNumberLate bundle t e t₂ e₂ n
+  pub never-more : {n : ℕ} → q ≡ None → HasNumberLate bundle t e t₂ e₂ n
   never-more p =
-      let d : Done (answer_of (call_late bundle (length t) (length e))) ≡ q = sym (s ∙ late.answer) in
+      let d : Some (answer_of (call_late bundle (length t) (length e))) ≡ q = sym (s ∙ late.answer) in
       let z : ◌≡◌ {A = ℕ} 0 1 = cc in
       absurd (omega arith)

@@ -3,8 +3,7 @@ use mathlib.Core.Path.{◌≡◌, sym, ap, ◌∙◌}
 use mathlib.Core.List.{List}
 use Prim.Native.Nat.{ℕ}
 use Rattle.lent.specs.Fill.{Filled}
-use Rattle.bundle_read.specs.declared.Answer.{Answer}
-use Rattle.bundle_read.specs.Read.{number_of, HasRead}
+use Rattle.bundle_read.specs.Read.{Answer, number_of, HasRead}
 use Rattle.bundle_read.proofs.Bundle as L
 use Rattle.bench_leaves.specs.Numbered.{HasNumber, HasNumberLate}
 

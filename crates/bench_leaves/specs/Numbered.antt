@@ -1,12 +1,11 @@
 -- A bundle that is read, with the number alone for its answer. Assumes nothing.
 use Rattle.std.specs.Prelude.{◌≡◌, List, ℕ, length}
-use Rattle.bundle_read.specs.declared.Answer.{Answer}
 use Rattle.bundle_read.specs.Read
 use Rattle.bundle_parts.specs.Late.{call_late}
 
 -- as `HasRead` of the bundle reader
 pub record HasNumber (bundle t e u f : List ℕ) (r : ℕ) : Type 0 where
-  pub answer : Answer
+  pub answer : Read.Answer
   pub reads : Read.HasRead bundle t e u f answer
   pub number : r ≡ Read.number_of answer
 

@@ -1,30 +1,16 @@
--- What the code goes by on one block: its zeros, and verdicts. Assumes nothing.
-use mathlib.Core.Path.{◌≡◌, refl, sym, ◌∙◌}
-use mathlib.Core.Bool.{Bool, true, false, ◌&&◌, and_assoc, and-true}
-use mathlib.Core.List.{List, [], ◌∷◌}
-use Prim.Native.Nat.{ℕ, zero, suc, ◌+◌, ◌-◌, ◌*◌, ◌≤◌, ◌<◌}
-use native.Mathlib.Nat.{sub-zero, zero-sub, suc-sub-suc}
-use native.Mathlib.Omega.{arith}
-use lib.Dec.{eqb}
-use lib.ListN.{length, take, drop, get_or, drop_of_length-le}
-use lib.Seq.{take-nil, drop-drop}
+-- What the code goes by on one block: its fields, and verdicts. Assumes nothing.
+use Rattle.std.proofs.Common.{◌≡◌, refl, sym, ◌∙◌, Bool, true, false, ◌&&◌, List, [], ◌∷◌, ℕ, zero, suc, ◌+◌, ◌-◌, ◌≤◌, arith, Ok, Err, eqb, length, take, drop, get_or, drop-drop, Result, IsErr, IsErrAnd, ap}
+use Rattle.std.proofs.Math.Nat.{sub-zero, zero-sub, suc-sub-suc}
+use Rattle.std.proofs.Math.Seq.{take-nil}
+use Rattle.std.proofs.lemmas.Result.{err_from_is_err_and}
 use Rattle.lent.specs.Bytes.{all}
-use Rattle.lent.proofs.Laws.{next, and_left, and_right}
+use Rattle.lent.proofs.Laws.{and_left, and_right}
 use Rattle.little.proofs.Laws.{one_byte}
 use Rattle.bundle_block.specs.declared.Refusal.{Refusal}
 use Rattle.bundle_block.specs.declared.Refusal.TheVariants.{Broken, BadCheck, OtherEdition}
-use Rattle.bundle_block.specs.declared.Verdict.{Verdict}
-use Rattle.bundle_block.specs.declared.Verdict.TheVariants.{Good, Bad}
-use Rattle.bundle_block.specs.Block.{number, field, check_of, edition_in, number_in, check_in, is_zero, ◌before◌, demand, judge_check, judge_edition, judge_order, judge_block}
+use Rattle.bundle_block.specs.Block.{check_of, edition_in, number_in, check_in, is_zero, Verdict, ◌before◌, demand, judge_check, judge_edition, judge_order, judge_block}
 
--- ---- zeros
-
-module _ (l : List ℕ) (i : ℕ) (x w : Bool) (p : (x && all is_zero (drop i l)) ≡ w) where
-  pub zero_more : i < length l → ((x && eqb (get_or l i 0) 0) && all is_zero (drop (i + 1) l)) ≡ w
-  zero_more h = and_assoc x (eqb (get_or l i 0) 0) (all is_zero (drop (i + 1) l)) ∙ (rw (next l i h) at p)
-
-  pub zero-end : length l ≤ i → x ≡ w
-  zero-end h = sym (and-true x) ∙ (rw (drop_of_length-le l h) at p)
+-- ---- lists
 
 pub drop-take : (n m : ℕ) (l : List ℕ) → drop n (take m l) ≡ take (m - n) (drop n l)
 drop-take zero m l = rw sub-zero
@@ -34,34 +20,36 @@ drop-take (suc n) (suc m) (x ∷ l) = drop-take n m l ∙ rw suc-sub-suc
 
 -- ---- verdicts
 
-pub demand-not : (b : Bool) (r : Refusal) → b ≡ false → Bad r ≡ demand b r
-demand-not b r p = rw p
-
-pub bad-before : (v w : Verdict) (r : Refusal) → v ≡ Bad r → Bad r ≡ (v before w)
-bad-before v w r p = rw p
-
 -- a verdict that was found, and the next
 module _ {u a : Verdict} (p : u ≡ a) where
-  pub first-bad : (b : Verdict) {r : Refusal} → u ≡ Bad r → u ≡ (a before b)
+  pub first-bad : (b : Verdict) {r : Refusal} → u ≡ Err r → Err r ≡ (a before b)
   first-bad b q = rw (← p, q)
 
-  pub then_next : {v b : Verdict} → u ≡ Good → v ≡ b → v ≡ (a before b)
+  pub then_next : {v b : Verdict} → u ≡ Ok tt → v ≡ b → v ≡ (a before b)
   then_next q r = rw (← p, q) r
 
+-- the refusal that a `?` hands on
+module _ {A : Type 0} {e : Refusal} (r : Result A Refusal) (h : IsErr r × IsErrAnd r (λ y. y ≡ e)) where
+  pub handed : r ≡ Err e
+  handed = let p = err_from_is_err_and r h.1 in p.1 ∙ ap Err p.2
+
+  pub handed-on : (total : Result A Refusal) → Err e ≡ total → r ≡ total
+  handed-on total q = handed ∙ q
+
 -- a good verdict says what was demanded
-pub demanded : (b : Bool) (r : Refusal) → demand b r ≡ Good → b ≡ true
+pub demanded : (b : Bool) (r : Refusal) → demand b r ≡ Ok tt → b ≡ true
 demanded true r p = refl
 demanded false r p = let z : ◌≡◌ {A = ℕ} 0 1 = cc in absurd (omega arith)
 
 pub both_true : (a b : Bool) → (a && b) ≡ true → (a ≡ true) × (b ≡ true)
 both_true a b p = (and_left a b p, and_right a b p)
 
-pub demanded-both : (a b : Bool) (r : Refusal) → demand (a && b) r ≡ Good → (a ≡ true) × (b ≡ true)
+pub demanded-both : (a b : Bool) (r : Refusal) → demand (a && b) r ≡ Ok tt → (a ≡ true) × (b ≡ true)
 demanded-both a b r p = both_true a b (demanded (a && b) r p)
 
-pub both-good : (v w : Verdict) → (v before w) ≡ Good → (v ≡ Good) × (w ≡ Good)
-both-good Good w p = (refl, p)
-both-good (Bad r) w p = let z : ◌≡◌ {A = ℕ} 0 1 = cc in absurd (omega arith)
+pub both-good : (v w : Verdict) → (v before w) ≡ Ok tt → (v ≡ Ok tt) × (w ≡ Ok tt)
+both-good (Ok o) w p = (refl, p)
+both-good (Err r) w p = let z : ◌≡◌ {A = ℕ} 0 1 = cc in absurd (omega arith)
 
 -- ---- one block
 

@@ -1,12 +1,5 @@
 -- What the code goes by in adding up the check: byte by byte, and part by part. Assumes nothing.
-use mathlib.Core.Path.{◌≡◌}
-use mathlib.Core.List.{List, [], ◌∷◌, ◌++◌}
-use Prim.Native.Nat.{ℕ, suc, ◌+◌, ◌-◌, ◌*◌, ◌/◌, ◌%◌, ◌≤◌, ◌<◌, min}
-use native.Mathlib.Omega.{arith}
-use lib.ListN.{length, take, drop, get_or, length-take, length-drop, drop_of_length-le, take-append-drop}
-use lib.Seq.{drop-drop}
-use mir.Syntax.{w8, w32}
-use mir.Val.{Fits}
+use Rattle.std.proofs.Common.{◌≡◌, List, [], ◌∷◌, ◌++◌, ℕ, suc, ◌+◌, ◌-◌, ◌*◌, ◌/◌, ◌≤◌, ◌<◌, arith, length, take, drop, get_or, length-take, length-drop, drop_of_length-le, take-append-drop, drop-drop, w8, w32, Fits}
 use Rattle.lent.proofs.Laws.{next}
 use Rattle.bundle_block.specs.Block.{weighed, check_of}
 use Rattle.bundle_block.proofs.Words.{weighed-small}
@@ -19,9 +12,6 @@ module _ (l : List ℕ) (p i sum total : ℕ) (q : sum + weighed p (drop i l) �
   weigh-one h r =
       let e : weighed p (drop i l) ≡ (p + 1) * get_or l i 0 + weighed (p + 1) (drop (i + 1) l) = rw (next l i h) in
       rw r (omega arith)
-
-  pub product-fits : {b : ℕ} → i < length l → b ≡ get_or l i 0 → total < 4294967296 → Fits w32 ((p + 1) * b)
-  product-fits h r k = let e = weigh-one h r in omega arith
 
   pub weighed-fits : {b : ℕ} → i < length l → b ≡ get_or l i 0 → total < 4294967296 → Fits w32 (sum + (p + 1) * b)
   weighed-fits h r k = let e = weigh-one h r in omega arith
@@ -60,26 +50,17 @@ pub weigh-none : (l : List ℕ) → 0 + weighed 0 (drop 0 l) ≡ check_of l
 unfolding check_of
 weigh-none l = omega arith
 
-module _ (rows : List ℕ) (at end : ℕ) (h : at ≤ length rows) (e : end ≡ min (at + 256) (length rows)) where
-  pub part-rows : at % 16 ≡ 0 → length rows % 16 ≡ 0 → length rows ≤ 508
-      → (length (take (end - at) (drop at rows)) % 16 ≡ 0) × (length (take (end - at) (drop at rows)) ≤ 256) × (at + length (take (end - at) (drop at rows)) ≤ 508)
-  part-rows a n k =
-      let m : length (take (end - at) (drop at rows)) ≡ end - at = simp (length-take, length-drop) (omega arith) in
-      rw m (omega arith, omega arith, omega arith)
+module _ (place sum total : ℕ) (rest part rest' : List ℕ) {b : ℕ} (e : rest ≡ part ++ rest') (q : sum + weighed place rest ≡ total) (r : b ≡ weighed place part) where
+  pub part-weighed : sum + b + weighed (place + length part) rest' ≡ total
+  part-weighed =
+      let w = weighed-append place part rest' in
+      let k : sum + weighed place (part ++ rest') ≡ total = rw e at q in
+      rw r (omega arith)
 
-  module _ (sum total : ℕ) {b : ℕ} (q : sum + weighed at (drop at rows) ≡ total) (r : b ≡ weighed at (take (end - at) (drop at rows))) where
-    pub part-weighed : sum + b + weighed end (drop end rows) ≡ total
-    part-weighed = weigh-part rows at end sum total (omega arith) (omega arith) q r
-
-    pub part-fits : total < 4294967296 → Fits w32 (sum + b)
-    part-fits k = let w = part-weighed in omega arith
+  pub part-fits : total < 4294967296 → Fits w32 (sum + b)
+  part-fits k = let w = part-weighed in omega arith
 
 module _ (l : List ℕ) where
-  pub whole-rows : length l ≤ 508 → (length (take (length l / 16 * 16 - 0) (drop 0 l)) ≤ 508) × (length (take (length l / 16 * 16 - 0) (drop 0 l)) % 16 ≡ 0)
-  whole-rows h =
-      let m : length (take (length l / 16 * 16 - 0) (drop 0 l)) ≡ length l / 16 * 16 = simp (length-take, length-drop) (omega arith) in
-      rw m (omega arith, omega arith)
-
   pub rows-weighed : {b : ℕ} → b ≡ check_of (take (length l / 16 * 16 - 0) (drop 0 l)) → b + weighed (length l / 16 * 16) (drop (length l / 16 * 16) l) ≡ check_of l
   unfolding check_of
   rows-weighed r = let w = weigh-part l 0 (length l / 16 * 16) 0 (check_of l) (omega arith) (omega arith) (weigh-none l) r in omega arith

@@ -1,12 +1,7 @@
 -- What the code goes by in adding up rows in lanes, from the last row to the first. Assumes nothing.
-use mathlib.Core.Path.{◌≡◌, refl, ◌∙◌}
-use mathlib.Core.List.{List, ◌++◌}
-use Prim.Native.Nat.{ℕ, zero, suc, ◌+◌, ◌-◌, ◌*◌, ◌%◌, ◌≤◌, ◌<◌}
-use native.Mathlib.Omega.{arith}
-use lib.ListN.{length, take, drop, get_or, length-take, length-drop, take-append-drop}
-use lib.Seq.{drop-drop, drop-length}
-use mir.Syntax.{w8, w32}
-use mir.Val.{Fits}
+use Rattle.std.proofs.Common.{min, sym, ap, length-append, take_at, drop_at, take-take, ◌≡◌, refl, ◌∙◌, List, ◌++◌, ℕ, zero, suc, ◌+◌, ◌-◌, ◌*◌, ◌%◌, ◌≤◌, ◌<◌, arith, length, take, drop, get_or, length-take, length-drop, take-append-drop, drop-drop, w8, w32, Fits}
+use Rattle.bundle_block.proofs.Block.{drop-take}
+use Rattle.std.proofs.Math.Seq.{drop-length}
 use Rattle.lent.specs.Fill.{zeros}
 use Rattle.bundle_block.specs.Block.{weighed}
 use Rattle.bundle_block.specs.Lanes.{sum_of, added}
@@ -75,13 +70,32 @@ module _ (rows : List ℕ) (place at : ℕ) (once by_row : List ℕ) (h : Counte
           by-row-most = λ k. omega (arith, added-most by_row once k, h.once-most k, h.by-row-most k);
         }
 
+-- the row that comes off the back of what is left
+module _ (rows : List ℕ) (place : ℕ) (once by_row rest front row : List ℕ) (h : Counted rows place (length rest) once by_row) (t : rest ≡ take (length rest) rows) (e : rest ≡ front ++ row)
+    (m : length row ≡ min 16 (length rest)) (more : 0 < length rest) where
+  front-long : length front ≡ length rest - 16
+  front-long = let a = ap length e ∙ length-append front row in let w = h.whole in omega arith
+
+  pub front-is : front ≡ take (length front) rows
+  front-is =
+      let n = front-long in
+      sym (take_at front row (length front) refl) ∙ ap (take (length front)) (sym e ∙ t) ∙ take-take (length front) (length rest) rows (omega arith)
+
+  row-is : row ≡ take (length rest - 16 + 16 - (length rest - 16)) (drop (length rest - 16) rows)
+  row-is =
+      let w = h.whole in
+      let n : length rest - (length rest - 16) ≡ length rest - 16 + 16 - (length rest - 16) = omega arith in
+      sym (drop_at front row (length rest - 16) front-long) ∙ ap (drop (length rest - 16)) (sym e ∙ t) ∙ drop-take (length rest - 16) (length rest) rows ∙ rw n
+
+  pub row-came : {once' by-row' : List ℕ} → length rows ≤ 256 → ((k : ℕ) → Fits w8 (get_or rows k 0)) → by-row' ≡ added by_row once → once' ≡ added once row → Counted rows place (length front) once' by-row'
+  row-came few bytes p q = rw front-long (counted-row rows place (length rest) once by_row h more few bytes p (q ∙ ap (added once) row-is))
+
 -- ---- all rows
 
-module _ (rows : List ℕ) (place at : ℕ) (once by_row : List ℕ) (h : Counted rows place at once by_row) (none : at ≤ 0) where
+module _ (rows : List ℕ) (place at : ℕ) (once by_row : List ℕ) (h : Counted rows place at once by_row) (none : at ≡ 0) where
   pub counted-all : {a b : ℕ} → a ≡ weighed place once → b ≡ sum_of by_row → a + 16 * b ≡ weighed place rows
   counted-all p q =
-      let z : at ≡ 0 = omega arith in
-      let w : weighed place once + 16 * sum_of by_row ≡ weighed place rows = rw z at h.weighs in
+      let w : weighed place once + 16 * sum_of by_row ≡ weighed place rows = rw none at h.weighs in
       omega arith
 
   module _ (small : weighed place rows < 4294967296) where

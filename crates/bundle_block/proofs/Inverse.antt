@@ -1,17 +1,10 @@
 -- A block that was written is judged good and holds what was written; a block that is judged good is the one that would be written. Assumes nothing.
-use mathlib.Core.Path.{◌≡◌, refl, sym, ap, ◌∙◌}
-use mathlib.Core.Bool.{true, ◌&&◌}
-use mathlib.Core.List.{List, [], ◌∷◌, ◌++◌}
-use Prim.Native.Nat.{ℕ, ◌+◌, ◌-◌, ◌^◌, ◌≤◌, ◌<◌}
-use native.Mathlib.Omega.{arith}
-use borrow.Author.Tests.{eqb-true, eq-eqb}
-use lib.Dec.{eqb}
-use lib.ListN.{length, take, drop, length-append, length-take, length-drop, length-replicate, take-append-drop}
-use lib.Seq.{take_all, take_at, drop_at, take-take, take-add, drop-append_seam, take-append_seam}
+use Rattle.std.proofs.Common.{◌≡◌, refl, sym, ap, ◌∙◌, true, ◌&&◌, List, [], ◌∷◌, ◌++◌, ℕ, ◌+◌, ◌-◌, ◌^◌, ◌≤◌, ◌<◌, arith, eqb-true, eq-eqb, Ok, eqb, length, take, drop, length-append, length-take, length-drop, take-append-drop, take_all, take_at, drop_at, take-take, take-add}
+use Rattle.std.proofs.Math.ListN.{length-replicate}
+use Rattle.std.proofs.Math.Seq.{drop-append_seam, take-append_seam}
 use Rattle.lent.specs.Bytes.{all}
 use Rattle.lent.specs.Fill.{zeros}
 use Rattle.bundle_block.specs.declared.Refusal.TheVariants.{Broken, BadCheck, OtherEdition}
-use Rattle.bundle_block.specs.declared.Verdict.TheVariants.{Good}
 use Rattle.little.proofs.Laws.{length-little, number-little}
 use Rattle.bundle_block.specs.Block.{is_byte, little, number, field, check_of, front_of, block_of, edition_in, number_in, kind_in, zero_in, payload_in, check_in, is_zero, ◌before◌, judge_check, judge_edition, judge_order, judge_block}
 use Rattle.bundle_block.proofs.Block.{demanded, both_true, both-good}
@@ -28,7 +21,7 @@ record Fields (edition block kind used : ℕ) (b : List ℕ) : Type 0 where
   unused : all is_zero (drop used (payload_in b)) ≡ true
 
 module _ (edition block kind used : ℕ) (b : List ℕ) where
-  good-fields : Fields edition block kind used b → judge_block edition block kind used b ≡ Good
+  good-fields : Fields edition block kind used b → judge_block edition block kind used b ≡ Ok tt
   unfolding judge_block judge_check judge_edition judge_order
   good-fields p =
       rw (
@@ -44,7 +37,7 @@ module _ (edition block kind used : ℕ) (b : List ℕ) where
         p.unused,
       )
 
-  fields-good : judge_block edition block kind used b ≡ Good → Fields edition block kind used b
+  fields-good : judge_block edition block kind used b ≡ Ok tt → Fields edition block kind used b
   unfolding judge_block judge_check judge_edition judge_order
   fields-good p =
       let check = eqb (check_in b) (check_of (take 508 b)) in
@@ -122,7 +115,7 @@ module _ (edition block kind : ℕ) (payload : List ℕ) (fits : length payload 
       all_append is_byte (little 4 edition ++ little 2 block ++ little 1 kind ++ 0 ∷ payload) (zeros (500 - length payload)) used (all-zeros is_byte refl (500 - length payload))
 
   -- it is judged good, and holds the payload
-  pub written-good : edition < 256 ^ 4 → block < 256 ^ 2 → kind < 256 ^ 1 → all is_byte payload ≡ true → judge_block edition block kind (length payload) (block_of edition block kind payload) ≡ Good
+  pub written-good : edition < 256 ^ 4 → block < 256 ^ 2 → kind < 256 ^ 1 → all is_byte payload ≡ true → judge_block edition block kind (length payload) (block_of edition block kind payload) ≡ Ok tt
   written-good e n k p =
       good-fields edition block kind (length payload) (block_of edition block kind payload)
       (record {
@@ -179,5 +172,5 @@ module _ (edition block kind used : ℕ) (b : List ℕ) (bytes : all is_byte b �
     again = sym (take-append-drop 508 b) ∙ rw (check-again, front-again)
 
   -- it is the one that would be written
-  pub good-written : judge_block edition block kind used b ≡ Good → b ≡ block_of edition block kind (take used (drop 8 b))
+  pub good-written : judge_block edition block kind used b ≡ Ok tt → b ≡ block_of edition block kind (take used (drop 8 b))
   good-written p = again (fields-good edition block kind used b p)

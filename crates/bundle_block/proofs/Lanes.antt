@@ -1,14 +1,6 @@
 -- What the code goes by in adding to lanes, and in adding lanes up. Assumes nothing.
-use mathlib.Core.Path.{◌≡◌, refl, ap, ◌∙◌}
-use mathlib.Core.List.{List, [], ◌∷◌}
-use Prim.Native.Nat.{ℕ, zero, suc, ◌+◌, ◌≤◌, ◌<◌}
-use native.Mathlib.Nat.{add-zero, mul-add}
-use native.Mathlib.Numerals.{add-one}
-use native.Mathlib.Omega.{arith}
-use lib.ListN.{length, take, drop, get_or, set, drop_of_length-le}
-use lib.Seq.{take_all, set-get_or}
-use mir.Syntax.{w16, w32}
-use mir.Val.{Fits}
+use Rattle.std.proofs.Common.{◌≡◌, refl, ap, List, [], ◌∷◌, ℕ, zero, suc, ◌+◌, ◌≤◌, ◌<◌, add-zero, mul-add, add-one, arith, length, take, drop, get_or, set, drop_of_length-le, w16, w32, Fits}
+use Rattle.std.proofs.Math.Seq.{set-get_or}
 use Rattle.lent.proofs.Laws.{next}
 use Rattle.bundle_block.specs.Block.{weighed}
 use Rattle.bundle_block.specs.Lanes.{sum_of, added}
@@ -44,9 +36,6 @@ module _ (l r m : List ℕ) (i : ℕ) (p : m ≡ added l (take i r)) where
 
   pub lane-added : {b : ℕ} → b ≡ get_or r i 0 → set m i (get_or m i 0 + b) ≡ added l (take (i + 1) r)
   lane-added q = rw (q, lane-kept, p, add-one) (added_next l r i)
-
-  pub lanes_end : length r ≤ i → m ≡ added l r
-  lanes_end h = p ∙ rw (take_all i r h)
 
 -- ---- the sum of lanes
 

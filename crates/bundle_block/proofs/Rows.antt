@@ -1,13 +1,5 @@
 -- A row of sixteen bytes before others, and what it adds in lanes. Assumes nothing.
-use mathlib.Core.Path.{◌≡◌}
-use mathlib.Core.List.{List, [], ◌∷◌, ◌++◌}
-use Prim.Native.Nat.{ℕ, zero, suc, ◌+◌, ◌*◌, ◌≤◌}
-use native.Mathlib.Nat.{add-mul}
-use native.Mathlib.Omega.{arith}
-use lib.ListN.{length, take, drop, get_or}
-use lib.Seq.{get_or-drop}
-use mir.Syntax.{w8}
-use mir.Val.{Fits}
+use Rattle.std.proofs.Common.{◌≡◌, List, [], ◌∷◌, ◌++◌, ℕ, zero, suc, ◌+◌, ◌*◌, ◌≤◌, add-mul, arith, length, take, drop, get_or, get_or-drop, w8, Fits}
 use Rattle.bundle_block.specs.Block.{weighed}
 use Rattle.bundle_block.specs.Lanes.{sum_of, added}
 use Rattle.bundle_block.proofs.Check.{weighed-append}

@@ -1,13 +1,12 @@
 -- A block (RULES R15.1): 512 bytes, little endian, written and judged. Assumes nothing.
-use Rattle.std.specs.Prelude.{Bool, true, false, ◌&&◌, List, [], ◌∷◌, ◌++◌, ℕ, zero, suc, ◌+◌, ◌-◌, ◌*◌, ◌/◌, ◌%◌, eqb, ltb, length, take, drop}
+use Rattle.std.specs.Prelude.{Bool, true, false, ◌&&◌, List, [], ◌∷◌, ◌++◌, ℕ, ◌+◌, ◌-◌, ◌*◌, eqb, ltb, length, take, drop, Result, Ok, Err}
+use Rattle.std.specs.Result.{result_and}
 use Rattle.lent.specs.Bytes.{all}
 use Rattle.lent.specs.Fill.{zeros}
 unfoldable pub use Rattle.little.specs.Little.{little, number}
 pub use Rattle.little.specs.Little.{field}
 use Rattle.bundle_block.specs.declared.Refusal.{Refusal}
 use Rattle.bundle_block.specs.declared.Refusal.TheVariants.{Broken, BadCheck, OtherEdition}
-use Rattle.bundle_block.specs.declared.Verdict.{Verdict}
-use Rattle.bundle_block.specs.declared.Verdict.TheVariants.{Good, Bad}
 
 abbrev pub is_byte : ℕ → Bool
 is_byte b = ltb b 256
@@ -57,16 +56,19 @@ is_zero b = eqb b 0
 
 -- ---- judged
 
+-- good, or what is wrong
+abbrev pub Verdict : Type 0
+Verdict = Result (Unit {0}) Refusal
+
 -- good where a test holds
 abbrev pub demand : Bool → Refusal → Verdict
-demand true r = Good
-demand false r = Bad r
+demand true r = Ok tt
+demand false r = Err r
 
 -- the first of two verdicts that is bad
 infixr 4 ◌before◌
 abbrev pub ◌before◌ : Verdict → Verdict → Verdict
-Good before w = w
-(Bad r) before w = Bad r
+v before w = result_and v w
 
 -- 11: the check is that of places 0 to 507
 unfoldable pub judge_check : (block : ℕ) → List ℕ → Verdict

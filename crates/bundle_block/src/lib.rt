@@ -1,9 +1,9 @@
 // One block of a note bundle: its words, and the verdict on it.
 #![tactic(auto)]
 
-ghost use Rattle.std.specs.Prelude.{ℕ, ◌+◌, ◌*◌, ◌%◌, ◌≤◌, ◌<◌, min, ◌≡◌, length, get_or};
+ghost use Rattle.std.specs.Prelude.{ℕ, ◌+◌, ◌*◌, ◌%◌, ◌≤◌, ◌<◌, ◌≡◌, length, get_or};
 ghost use Rattle.lent.specs.Bytes.{all};
-ghost use Rattle.bundle_block.specs.Block.{weighed, check_of, is_zero, ◌before◌, demand as demanded, judge_check, judge_edition, judge_order, judge_block};
+ghost use Rattle.bundle_block.specs.Block.{weighed, check_of, is_zero, demand as demanded, judge_check, judge_edition, judge_order, judge_block};
 ghost use Rattle.bundle_block.specs.Lanes.{sum_of, added};
 
 // A row of the check has sixteen lanes, a byte each. Loops over lanes end at this constant, so that the compiler makes vector code of them.
@@ -21,25 +21,25 @@ pub enum Refusal {
     OtherEdition(usize),
 }
 
-#[derive(Clone, Copy)]
-pub enum Verdict {
-    Good,
-    Bad(Refusal),
-}
-
 // One block: 11, 12, 10. All three are asked, since a good block needs them all.
-pub fn judge_block(block: &[u8], edition: u32, index: usize, kind: u8, used: usize) -> Verdict
+pub fn judge_block(
+    block: &[u8],
+    edition: u32,
+    index: usize,
+    kind: u8,
+    used: usize,
+) -> Result<(), Refusal>
     requires { (length block.now ≡ 512) × (used ≤ 500) }
     ensures { result ≡ judge_block edition index kind used block.now }
 {
     let right = judge_check(block, index);
     let same = judge_edition(block, edition, index);
     let due = judge_order(block, index, kind, used);
-    first(right, first(same, due))
+    right.and(same.and(due))
 }
 
 // 11.
-fn judge_check(block: &[u8], index: usize) -> Verdict
+fn judge_check(block: &[u8], index: usize) -> Result<(), Refusal>
     requires { length block.now ≡ 512 }
     ensures { result ≡ judge_check index block.now }
 {
@@ -48,7 +48,7 @@ fn judge_check(block: &[u8], index: usize) -> Verdict
 }
 
 // 12.
-fn judge_edition(block: &[u8], edition: u32, index: usize) -> Verdict
+fn judge_edition(block: &[u8], edition: u32, index: usize) -> Result<(), Refusal>
     requires { length block.now ≡ 512 }
     ensures { result ≡ judge_edition edition index block.now }
 {
@@ -57,7 +57,7 @@ fn judge_edition(block: &[u8], edition: u32, index: usize) -> Verdict
 }
 
 // 10.
-fn judge_order(block: &[u8], index: usize, kind: u8, used: usize) -> Verdict
+fn judge_order(block: &[u8], index: usize, kind: u8, used: usize) -> Result<(), Refusal>
     requires { (length block.now ≡ 512) × (used ≤ 500) }
     ensures { result ≡ judge_order index kind used block.now }
 {
@@ -69,23 +69,10 @@ fn judge_order(block: &[u8], index: usize, kind: u8, used: usize) -> Verdict
     )
 }
 
-pub fn demand(holds: bool, otherwise: Refusal) -> Verdict
+pub fn demand(holds: bool, otherwise: Refusal) -> Result<(), Refusal>
     ensures { result ≡ demanded holds otherwise }
 {
-    if holds {
-        return Verdict::Good;
-    }
-    Verdict::Bad(otherwise)
-}
-
-// The first of two verdicts that is bad.
-pub fn first(one: Verdict, other: Verdict) -> Verdict
-    ensures { result ≡ (one before other) }
-{
-    match one {
-        Verdict::Good => other,
-        Verdict::Bad(r) => Verdict::Bad(r),
-    }
+    if holds { Ok(()) } else { Err(otherwise) }
 }
 
 // The sum of (place + 1) times byte: of the whole rows, and of the bytes behind them one by one.
@@ -95,10 +82,8 @@ pub fn check_of(front: &[u8]) -> u32
 {
     let whole = front.len() / ROW * ROW;
     let mut sum = weigh_parts(&front[0..whole]);
-    let mut place = whole;
-    while place < front.len() {
-        sum += (place as u32 + 1) * wide(front[place]);
-        place += 1;
+    for place in whole..front.len() {
+        sum += (place as u32 + 1) * u32::from(front[place]);
     }
     sum
 }
@@ -109,11 +94,10 @@ fn weigh_parts(rows: &[u8]) -> u32
     ensures { result ≡ check_of rows.now }
 {
     let mut sum: u32 = 0;
-    let mut at: usize = 0;
-    while at < rows.len() {
-        let end = least(at + PART, rows.len());
-        sum += weigh_rows(&rows[at..end], at as u32);
-        at = end;
+    let mut place: u32 = 0;
+    for part in rows.chunks(PART) {
+        sum += weigh_rows(part, place);
+        place += part.len() as u32;
     }
     sum
 }
@@ -127,11 +111,9 @@ fn weigh_rows(rows: &[u8], place: u32) -> u32
 {
     let mut once = [0u16; ROW];
     let mut by_row = [0u16; ROW];
-    let mut at = rows.len();
-    while 0 < at {
-        at -= ROW;
+    for row in rows.rchunks(ROW) {
         add_lanes(&mut by_row, &once);
-        add_row(&mut once, &rows[at..at + ROW]);
+        add_row(&mut once, row);
     }
     weigh_lanes(&once, place) + ROW as u32 * sum_lanes(&by_row)
 }
@@ -143,11 +125,9 @@ fn weigh_lanes(lanes: &[u16; ROW], place: u32) -> u32
 {
     let mut sum: u32 = 0;
     let mut weight = place;
-    let mut lane: usize = 0;
-    while lane < ROW {
+    for lane in 0..ROW {
         weight += 1;
-        sum += weight * wider(lanes[lane]);
-        lane += 1;
+        sum += weight * u32::from(lanes[lane]);
     }
     sum
 }
@@ -157,10 +137,8 @@ fn sum_lanes(lanes: &[u16; ROW]) -> u32
     ensures { result ≡ sum_of lanes.now }
 {
     let mut sum: u32 = 0;
-    let mut lane: usize = 0;
-    while lane < ROW {
-        sum += wider(lanes[lane]);
-        lane += 1;
+    for n in lanes {
+        sum += u32::from(*n);
     }
     sum
 }
@@ -169,10 +147,8 @@ fn add_row(lanes: &mut [u16; ROW], row: &[u8])
     requires { (length row.now ≡ 16) × ((k : ℕ) → get_or lanes.old k 0 + get_or row.now k 0 < 65536) }
     ensures { lanes.new ≡ added lanes.old row.now }
 {
-    let mut lane: usize = 0;
-    while lane < ROW {
-        lanes[lane] += in_lane(row[lane]);
-        lane += 1;
+    for lane in 0..ROW {
+        lanes[lane] += u16::from(row[lane]);
     }
 }
 
@@ -180,32 +156,9 @@ fn add_lanes(lanes: &mut [u16; ROW], more: &[u16; ROW])
     requires { (length more.now ≡ 16) × ((k : ℕ) → get_or lanes.old k 0 + get_or more.now k 0 < 65536) }
     ensures { lanes.new ≡ added lanes.old more.now }
 {
-    let mut lane: usize = 0;
-    while lane < ROW {
+    for lane in 0..ROW {
         lanes[lane] += more[lane];
-        lane += 1;
     }
-}
-
-fn in_lane(b: u8) -> u16
-    ensures { result ≡ b }
-{
-    b as u16
-}
-
-fn wider(n: u16) -> u32
-    ensures { result ≡ n }
-{
-    n as u32
-}
-
-pub fn least(a: usize, b: usize) -> usize
-    ensures { result ≡ min a b }
-{
-    if a < b {
-        return a;
-    }
-    b
 }
 
 // Whether all bytes are zero. It looks at each, so that the compiler can look at many at a time.
@@ -213,16 +166,8 @@ fn is_zero(part: &[u8]) -> bool
     ensures { result ≡ all is_zero part.now }
 {
     let mut zero = true;
-    let mut seen = 0;
-    while seen < part.len() {
-        zero = zero & (part[seen] == 0);
-        seen += 1;
+    for b in part {
+        zero &= *b == 0;
     }
     zero
-}
-
-fn wide(b: u8) -> u32
-    ensures { (result ≡ b) × (result < 256) }
-{
-    b as u32
 }

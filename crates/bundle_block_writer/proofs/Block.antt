@@ -1,74 +1,44 @@
 -- What the code goes by on one block: its words, its payload with zeros behind, and the check of what stands there. Assumes nothing.
-use mathlib.Core.Path.{◌≡◌, sym, ap, ◌∙◌}
-use mathlib.Core.List.{List, [], ◌∷◌, ◌++◌, append_assoc}
-use Prim.Native.Nat.{ℕ, ◌+◌, ◌-◌, ◌≤◌}
-use native.Mathlib.Omega.{arith}
-use lib.ListN.{length, take, drop, length-append, length-take, length-drop, length-replicate}
-use lib.Seq.{take_all, append_snoc, drop-drop}
-use Rattle.lent.specs.Fill.{fill, zeros, Filled}
-use Rattle.lent.proofs.Laws.{both, same, length-filled, fill-behind, take-fill}
+use Rattle.std.proofs.Common.{◌≡◌, sym, ap, ◌∙◌, List, [], ◌∷◌, ◌++◌, append_assoc, ℕ, zero, suc, ◌+◌, ◌-◌, ◌≤◌, ◌<◌, arith, length, take, drop, length-append, length-drop}
+use Rattle.std.proofs.Math.Seq.{append_snoc}
+use Rattle.lent.specs.Fill.{fill, zeros}
+use Rattle.lent.specs.declared.Writer.{Writer}
+use Rattle.lent.specs.Writer.{Writes}
+use Rattle.lent.proofs.Laws.{fill-behind, take-fill}
+use Rattle.lent.proofs.Writing.{Due, then, by, length-written, step, done}
 use Rattle.little.proofs.Laws.{length-little}
 use Rattle.bundle_block.specs.Block.{little, check_of, front_of, block_of}
 use Rattle.bundle_block.proofs.Inverse.{length-block}
 
--- ---- what has room, and what stands there
+-- what was written where it has room stands there
+stands : {s : List ℕ} {v w : Writer} → v.at + length s ≤ length v.bytes.now → Writes s v w → take (w.at - v.at) (drop v.at w.bytes.now) ≡ s
+stands {s} {v} {w} h p =
+    let a = p.filled.place in
+    let n : w.at - v.at ≡ 0 + length s = omega arith in
+    let z : v.at + 0 ≡ v.at = omega arith in
+    let k : 0 + length s ≤ length (drop v.at v.bytes.now) = rw length-drop (omega arith) in
+    let b : drop v.at (fill v.bytes.now v.at s) ≡ fill (drop v.at v.bytes.now) 0 s = rw z at (fill-behind v.at v.bytes.now 0 s) in
+    rw (n, p.filled.bytes, b) (take-fill (drop v.at v.bytes.now) 0 s k)
 
-placed : {d s e : List ℕ} {at r : ℕ} → at + length s ≤ length d → Filled d at s e r → r ≡ at + length s
-placed h p = let a = p.place in omega arith
+-- ---- the zeros behind a payload
 
-stands : {d s e : List ℕ} {at r : ℕ} → at + length s ≤ length d → Filled d at s e r → take (r - at) (drop at e) ≡ s
-stands {d} {s} {e} {at} {r} h p =
-    let a = placed h p in
-    let n : r - at ≡ 0 + length s = omega arith in
-    let z : at + 0 ≡ at = omega arith in
-    let k : 0 + length s ≤ length (drop at d) = rw length-drop (omega arith) in
-    let b : drop at (fill d at s) ≡ fill (drop at d) 0 s = rw z at (fill-behind at d 0 s) in
-    rw (n, p.bytes, b) (take-fill (drop at d) 0 s k)
+module _ (i : ℕ) {s : List ℕ} {u v : Writer} (p : Due s u (zeros (500 - i)) v) where
+  pub zero_more : {w : Writer} → i < 500 → Writes (0 ∷ []) v w → Due s u (zeros (500 - (i + 1))) w
+  zero_more h q = let n : 500 - i ≡ suc (500 - (i + 1)) = omega arith in step (rw n) p q
 
--- bytes in the place of as many
-fill-part : (d s : List ℕ) (at : ℕ) → at + length s ≤ length d → take at d ++ (s ++ drop (length s) (drop at d)) ≡ fill d at s
-unfolding fill
-fill-part d s at h =
-    let n : length (take at d ++ s ++ drop (at + length s) d) ≤ length d = simp (length-append, length-take, length-drop) (omega arith) in
-    rw (drop-drop (length s) at d) (sym (append_assoc (take at d) s (drop (at + length s) d)) ∙ sym (take_all (length d) (take at d ++ s ++ drop (at + length s) d) n))
-
--- zeros there
-zeros-put : (d m : List ℕ) (from end n : ℕ) → from + n ≡ end → end ≤ length d → m ≡ take 0 (take (end - from) (drop from d)) ++ zeros (length (take (end - from) (drop from d)) - 0)
-    → Filled d from (zeros n) (take from d ++ (m ++ drop (end - from) (drop from d))) end
-zeros-put d m from end n h k q =
-    let c : end - from ≡ n = omega arith in
-    let w : length (take n (drop from d)) - 0 ≡ n = simp (length-take, length-drop) (omega arith) in
-    let z : length (zeros n) ≡ n = simp length-replicate in
-    let b : take from d ++ (zeros n ++ drop n (drop from d)) ≡ fill d from (zeros n) = rw z at (fill-part d (zeros n) from (omega arith)) in
-    record { bytes = rw (q, c, w) b; place = omega arith }
-
--- ---- the parts of a block
-
-pub words-put : (edition number kind : ℕ) {d e f g h : List ℕ} {at m n o r : ℕ} → Filled d at (little 4 edition) e m → Filled e m (little 2 number) f n → Filled f n (little 1 kind) g o
-    → Filled g o (0 ∷ []) h r → Filled d at (little 4 edition ++ little 2 number ++ little 1 kind ++ 0 ∷ []) h r
-words-put edition number kind p q s t = both (both (both p q) s) t
-
-pub payload-put : (d payload : List ℕ) (at : ℕ) {e m : List ℕ} {used : ℕ} → at + 500 ≤ length d → length payload ≤ 500 → Filled d at payload e used
-    → m ≡ take 0 (take (at + 500 - used) (drop used e)) ++ zeros (length (take (at + 500 - used) (drop used e)) - 0)
-    → Filled d at (payload ++ zeros (500 - length payload)) (take used e ++ (m ++ drop (at + 500 - used) (drop used e))) (at + 500)
-payload-put d payload at {e} {m} {used} h k p q = both p (zeros-put e m used (at + 500) (500 - length payload) (ends (placed (omega arith) p)) (long (length-filled p)) q)
-  where
-    ends : used ≡ at + length payload → used + (500 - length payload) ≡ at + 500
-    ends a = omega arith
-
-    long : length e ≡ length d → at + 500 ≤ length e
-    long a = omega arith
+  pub zero-end : 500 ≤ i → Writes s u v
+  zero-end h = let n : 500 - i ≡ 0 = omega arith in done (rw n) p
 
 -- ---- a block
 
-module _ (edition number kind : ℕ) (payload : List ℕ) (at : ℕ) {d e f : List ℕ} {words front : ℕ} (h : at + 512 ≤ length d) (k : length payload ≤ 500)
-    (p : Filled d at (little 4 edition ++ little 2 number ++ little 1 kind ++ 0 ∷ []) e words) (q : Filled e words (payload ++ zeros (500 - length payload)) f front) where
-  front-put : Filled d at (front_of edition number kind payload) f front
+module _ (edition number kind : ℕ) (payload : List ℕ) {u v w : Writer} (h : u.at + 512 ≤ length u.bytes.now) (k : length payload ≤ 500)
+    (p : Writes (little 4 edition ++ little 2 number ++ little 1 kind ++ 0 ∷ []) u v) (q : Writes (payload ++ zeros (500 - length payload)) v w) where
+  front-put : Writes (front_of edition number kind payload) u w
   unfolding front_of
   front-put =
       let fields = little 4 edition ++ little 2 number ++ little 1 kind in
       let rest = zeros (500 - length payload) in
-      same (ap (λ (x : List ℕ). x ++ rest) (sym (append_snoc fields 0 payload)) ∙ append_assoc (fields ++ 0 ∷ []) payload rest) (both p q)
+      by (ap (λ (x : List ℕ). x ++ rest) (sym (append_snoc fields 0 payload)) ∙ append_assoc (fields ++ 0 ∷ []) payload rest) (then p q)
 
   length_front : length (front_of edition number kind payload) ≡ 508
   unfolding block_of
@@ -78,9 +48,13 @@ module _ (edition number kind : ℕ) (payload : List ℕ) (at : ℕ) {d e f : Li
       let c = length-little 4 (check_of (front_of edition number kind payload)) in
       omega arith
 
-  front-stands : take (front - at) (drop at f) ≡ front_of edition number kind payload
+  front-stands : take (w.at - u.at) (drop u.at w.bytes.now) ≡ front_of edition number kind payload
   front-stands = let n = length_front in stands (omega arith) front-put
 
-  pub block_written : {g : List ℕ} {check r : ℕ} → check ≡ check_of (take (front - at) (drop at f)) → Filled f front (little 4 check) g r → g ≡ fill d at (block_of edition number kind payload)
+  pub block_written : {x : Writer} {check : ℕ} → check ≡ check_of (take (w.at - u.at) (drop u.at w.bytes.now)) → Writes (little 4 check) w x → Writes (block_of edition number kind payload) u x
   unfolding block_of
-  block_written c s = (both front-put s).bytes ∙ rw (c, front-stands)
+  block_written c s = then front-put (rw (c, front-stands) at s)
+
+  -- what the check is taken of stands in the buffer, and is short enough
+  pub front-inside : (u.at ≤ w.at) × (w.at ≤ u.at + 508) × (w.at ≤ length w.bytes.now)
+  front-inside = let n = length_front in let a = front-put.filled.place in let b = length-written front-put in (omega arith, omega arith, omega arith)

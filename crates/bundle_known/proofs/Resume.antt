@@ -1,19 +1,9 @@
 -- Bytes that come in two parts come to what both together come to; and what holds of what they come to. Assumes nothing.
-use Rattle.std.specs.Prelude.{if◌then◌else◌}
-use mathlib.Core.Path.{◌≡◌, refl, sym, ap, ◌∙◌}
-use mathlib.Core.Logic.{⊎_elim}
-use mathlib.Core.Bool.{Bool, true, false}
-use mathlib.Core.List.{List, ◌++◌}
-use Prim.Native.Nat.{ℕ, ◌+◌, ◌≤◌, ◌<◌}
-use native.Mathlib.Decide.{dec_le}
-use native.Mathlib.Omega.{arith}
-use borrow.Author.Tests.{lt-leb, le-leb}
-use lib.Dec.{leb}
-use lib.ListN.{length, drop, length-append, length-drop}
-use lib.Seq.{take-append-le, drop-append-le}
-use Rattle.bundle_block.specs.declared.Verdict.{Verdict}
-use Rattle.bundle_block.specs.declared.Verdict.TheVariants.{Good, Bad}
-use Rattle.bundle_block.specs.Block.{◌before◌, field}
+use Rattle.std.proofs.Common.{if◌then◌else◌, ◌≡◌, refl, sym, ap, ◌∙◌, ⊎_elim, Bool, true, false, List, ◌++◌, ℕ, ◌+◌, ◌≤◌, ◌<◌, arith, le-leb, leb, length, drop, length-append, length-drop, Ok, Err}
+use Rattle.std.proofs.Math.Decide.{dec_le}
+use borrow.Author.Tests.{lt-leb}
+use Rattle.std.proofs.Math.Seq.{take-append-le, drop-append-le}
+use Rattle.bundle_block.specs.Block.{Verdict, ◌before◌, field}
 use Rattle.bundle_read.specs.Bundle.{blocks_for, judge_header}
 use Rattle.bundle_read.specs.Sizes.{text_room, text_kind, event_kind}
 use Rattle.bundle_known.specs.declared.Known.{Known}
@@ -21,8 +11,8 @@ use Rattle.bundle_known.specs.Known.{said_in, index_of, with_text, with_events, 
 use Rattle.bundle_known.proofs.Runs.{none-there, none-due, none-judged, none_came, none_filled, all_left, taken-all, came-both, left_both, fill-both, judge-both}
 
 pub unless-before : (u v : Verdict) (c : Came) → unless (u before v) c ≡ unless u (unless v c)
-unless-before Good v c = refl
-unless-before (Bad r) v c = refl
+unless-before (Ok o) v c = refl
+unless-before (Err r) v c = refl
 
 -- ---- one run: where nothing is taken, and in two parts
 
@@ -84,13 +74,13 @@ module _ (k : Known) (t e a b : List ℕ) where
 -- ---- both runs in two parts
 
 pub unless-then : (v : Verdict) (c : Came) (f : Known → List ℕ → List ℕ → List ℕ → Came) → (unless v c then f) ≡ unless v (c then f)
-unless-then Good c f = refl
-unless-then (Bad r) c f = refl
+unless-then (Ok o) c f = refl
+unless-then (Err r) c f = refl
 
 -- what follows is the same where nothing is refused
-pub unless-same : (v : Verdict) {c d : Came} → (v ≡ Good → c ≡ d) → unless v c ≡ unless v d
-unless-same Good p = p refl
-unless-same (Bad r) p = refl
+pub unless-same : (v : Verdict) {c d : Came} → (v ≡ Ok tt → c ≡ d) → unless v c ≡ unless v d
+unless-same (Ok o) p = p refl
+unless-same (Err r) p = refl
 
 -- by the runs alone
 abbrev onward : List ℕ → Known → List ℕ → List ℕ → List ℕ → Came

@@ -1,15 +1,9 @@
 -- A run of blocks that comes in two parts: what is taken of the first and then of the second is what is taken of both. Assumes nothing.
-use mathlib.Core.Path.{◌≡◌, sym, ap, ◌∙◌}
-use mathlib.Core.Logic.{◌⊎◌, inl, inr, ⊎_elim}
-use mathlib.Core.List.{List, ◌++◌}
-use Prim.Native.Nat.{ℕ, ◌+◌, ◌-◌, ◌*◌, ◌/◌, ◌≤◌, ◌<◌, min}
-use native.Mathlib.Decide.{dec_le}
-use native.Mathlib.Omega.{arith}
-use lib.ListN.{length, drop, length-append, length-drop}
-use lib.Seq.{drop-drop, drop-append-le}
+use Rattle.std.proofs.Common.{◌≡◌, sym, ap, ◌∙◌, ◌⊎◌, inl, inr, ⊎_elim, List, ◌++◌, ℕ, ◌+◌, ◌-◌, ◌*◌, ◌/◌, ◌≤◌, ◌<◌, min, arith, length, drop, length-append, length-drop, drop-drop, Ok}
+use Rattle.std.proofs.Math.Decide.{dec_le}
+use Rattle.std.proofs.Math.Seq.{drop-append-le}
 use Rattle.lent.specs.Fill.{fill, past}
 use Rattle.lent.proofs.Laws.{fill_none, fill-out, fill-fill, length-fill}
-use Rattle.bundle_block.specs.declared.Verdict.TheVariants.{Good}
 use Rattle.bundle_block.specs.Block.{◌before◌}
 use Rattle.bundle_run.specs.Run.{judge_run, held_in}
 use Rattle.bundle_run.proofs.Split.{judge-split, held-split, judge-front, held-front, length_some}
@@ -55,7 +49,7 @@ pub none-due : (came total : ℕ) (l : List ℕ) → total ≤ came → taken ca
 none-due came total l h = omega arith
 
 module _ (came total : ℕ) (l : List ℕ) (h : taken came total l ≡ 0) where
-  pub none-judged : (edition kind index : ℕ) → judge_taken edition kind index came total l ≡ Good
+  pub none-judged : (edition kind index : ℕ) → judge_taken edition kind index came total l ≡ Ok tt
   unfolding judge_taken judge_run
   none-judged edition kind index = rw h
 

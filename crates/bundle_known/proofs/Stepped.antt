@@ -1,17 +1,8 @@
 -- What holds of what bytes come to: the buffers keep their lengths, and what is left is no whole block that is due. Assumes nothing.
-use mathlib.Core.Path.{◌≡◌, refl, sym, ap, ◌∙◌}
-use mathlib.Core.Logic.{◌⊎◌, inl, inr, ⊎_elim}
-use mathlib.Core.Bool.{Bool, true, false, ◌&&◌}
-use mathlib.Core.List.{List, []}
-use Prim.Native.Nat.{ℕ, ◌-◌, ◌*◌, ◌≤◌, ◌<◌}
-use native.Mathlib.Decide.{dec_le}
-use native.Mathlib.Omega.{arith}
-use borrow.Author.Tests.{le-leb, leb-true}
-use lib.Dec.{leb}
-use lib.ListN.{length, drop, length-drop, drop_of_length-le}
+use Rattle.std.proofs.Common.{◌≡◌, refl, sym, ap, ◌∙◌, ◌⊎◌, inl, inr, ⊎_elim, Bool, true, false, ◌&&◌, List, [], ℕ, ◌-◌, ◌*◌, ◌≤◌, ◌<◌, arith, le-leb, leb-true, leb, length, drop, length-drop, drop_of_length-le, Ok, Err}
+use Rattle.std.proofs.Math.Decide.{dec_le}
 use Rattle.lent.proofs.Laws.{and_left, and_right}
-use Rattle.bundle_block.specs.declared.Verdict.{Verdict}
-use Rattle.bundle_block.specs.declared.Verdict.TheVariants.{Good, Bad}
+use Rattle.bundle_block.specs.Block.{Verdict}
 use Rattle.bundle_read.specs.Bundle.{judge_header}
 use Rattle.bundle_known.specs.declared.Known.{Known}
 use Rattle.bundle_known.specs.Known.{said_in, whole_of, taken, came_then, fill_taken, left_of, Came, goes, stops, ◌then◌, unless, events_of, runs_of, advance_of}
@@ -67,9 +58,9 @@ module _ (k : Known) (t e l : List ℕ) where
             → unless u (unless v (goes (behind_events k t e l) (fill_taken k.text_came k.text t l) (fill_taken k.events_came k.events e (left_text k t e l)) (left_of k.events_came k.events (left_text k t e l))))
             ≡ goes k' t' e' l'
             → Kept
-        by Good Good r = kept p (cc) (cc) (cc) (cc)
-        by Good (Bad x) r = let z : ◌≡◌ {A = ℕ} 0 1 = cc in absurd (omega arith)
-        by (Bad x) v r = let z : ◌≡◌ {A = ℕ} 0 1 = cc in absurd (omega arith)
+        by (Ok o) (Ok o') r = kept p (cc) (cc) (cc) (cc)
+        by (Ok o) (Err x) r = let z : ◌≡◌ {A = ℕ} 0 1 = cc in absurd (omega arith)
+        by (Err x) v r = let z : ◌≡◌ {A = ℕ} 0 1 = cc in absurd (omega arith)
 
     short-stepped : k.begun ≡ false → length l < 512 → goes k t e l ≡ goes k' t' e' l' → Stepped k t e l k' t' e' l'
     short-stepped p h q =
@@ -83,8 +74,8 @@ module _ (k : Known) (t e l : List ℕ) where
     kept-stepped a b c d = record { text-long = a; events-long = b; no-block-left = c; unbegun = λ x. let z : ◌≡◌ {A = ℕ} 0 1 = cc in absurd (omega arith) }
 
 header-stepped : (k : Known) (t e l : List ℕ) (k' : Known) (t' e' l' : List ℕ) (v : Verdict) → unless v (runs_of (said_in l) t e (drop 512 l)) ≡ goes k' t' e' l' → Stepped k t e l k' t' e' l'
-header-stepped k t e l k' t' e' l' Good q = let s = runs-stepped (said_in l) t e (drop 512 l) k' t' e' l' refl q in kept-stepped k t e l k' t' e' l' s.0 s.1 s.2 s.3
-header-stepped k t e l k' t' e' l' (Bad r) q = let z : ◌≡◌ {A = ℕ} 0 1 = cc in absurd (omega arith)
+header-stepped k t e l k' t' e' l' (Ok o) q = let s = runs-stepped (said_in l) t e (drop 512 l) k' t' e' l' refl q in kept-stepped k t e l k' t' e' l' s.0 s.1 s.2 s.3
+header-stepped k t e l k' t' e' l' (Err r) q = let z : ◌≡◌ {A = ℕ} 0 1 = cc in absurd (omega arith)
 
 pub stepped : (k : Known) (t e l : List ℕ) (k' : Known) (t' e' l' : List ℕ) → advance_of k t e l ≡ goes k' t' e' l' → Stepped k t e l k' t' e' l'
 stepped k t e l k' t' e' l' q = by k.begun refl
@@ -151,11 +142,11 @@ some-due k w p h i =
     omega arith
 
 header-taken : (t e l : List ℕ) (k' : Known) (t' e' l' : List ℕ) (v : Verdict) → length l ≡ 512 → unless v (runs_of (said_in l) t e (drop 512 l)) ≡ goes k' t' e' l' → l' ≡ []
-header-taken t e l k' t' e' l' Good h q =
+header-taken t e l k' t' e' l' (Ok o) h q =
     let n : length (drop 512 l) ≡ 0 = rw length-drop (omega arith) in
     (runs-stepped (said_in l) t e (drop 512 l) k' t' e' l' refl q).4
     ∙ no_more (said_in l) t e (drop 512 l) (omega arith) (λ x. n) (λ x y. n)
-header-taken t e l k' t' e' l' (Bad r) h q = let z : ◌≡◌ {A = ℕ} 0 1 = cc in absurd (omega arith)
+header-taken t e l k' t' e' l' (Err r) h q = let z : ◌≡◌ {A = ℕ} 0 1 = cc in absurd (omega arith)
 
 pub block-taken : (k : Known) (t e l : List ℕ) (k' : Known) (t' e' l' : List ℕ) → whole_of k ≡ false → length l ≡ 512 → advance_of k t e l ≡ goes k' t' e' l' → l' ≡ []
 block-taken k t e l k' t' e' l' w h q = by k.begun refl

@@ -1,10 +1,8 @@
 -- What is known of a bundle while it comes, and what more bytes of it add, from any state. For the parts of one bundle nobody has to read this: `ended` and `fed` of bundle_parts say it by the joined bytes alone. Assumes nothing.
-use Rattle.std.specs.Prelude.{Bool, true, false, ◌&&◌, List, ℕ, ◌+◌, ◌-◌, ◌*◌, ◌/◌, min, leb, length, drop, if◌then◌else◌}
+use Rattle.std.specs.Prelude.{Bool, true, false, ◌&&◌, List, ℕ, ◌+◌, ◌-◌, ◌*◌, ◌/◌, min, leb, length, drop, if◌then◌else◌, Ok, Err}
 use Rattle.lent.specs.Fill.{fill}
 use Rattle.bundle_block.specs.declared.Refusal.{Refusal}
-use Rattle.bundle_block.specs.declared.Verdict.{Verdict}
-use Rattle.bundle_block.specs.declared.Verdict.TheVariants.{Good, Bad}
-use Rattle.bundle_block.specs.Block.{edition_in}
+use Rattle.bundle_block.specs.Block.{Verdict, edition_in}
 use Rattle.bundle_run.specs.Run.{judge_run, held_in}
 use Rattle.bundle_read.specs.Bundle.{blocks_for, text_length, event_length, judge_header}
 use Rattle.bundle_read.specs.Sizes.{text_room, text_kind, event_kind}
@@ -28,10 +26,10 @@ module _ (k : Known) where
   whole_of = k.begun && leb k.text k.text_came && leb k.events k.events_came
 
   abbrev pub with_text : ℕ → Known
-  with_text came = record { begun = k.begun; edition = k.edition; text = k.text; events = k.events; text_came = came; events_came = k.events_came }
+  with_text came = record k { text_came = came }
 
   abbrev pub with_events : ℕ → Known
-  with_events came = record { begun = k.begun; edition = k.edition; text = k.text; events = k.events; text_came = k.text_came; events_came = came }
+  with_events came = record k { events_came = came }
 
 -- ---- a run of blocks, of which `came` of `total` bytes have come; the next block has the number index
 
@@ -68,8 +66,8 @@ abbrev pub ◌then◌ : Came → (Known → List ℕ → List ℕ → List ℕ �
 (stops r) then f = stops r
 
 abbrev pub unless : Verdict → Came → Came
-unless Good c = c
-unless (Bad r) c = stops r
+unless (Ok o) c = c
+unless (Err r) c = stops r
 
 -- a run's blocks that are there: one is refused, or f goes on from how much has come, the buffer and what is left
 abbrev pub taking : (edition kind index came total : ℕ) (d l : List ℕ) → (ℕ → List ℕ → List ℕ → Came) → Came

@@ -3,13 +3,14 @@
 
 ghost use Rattle.std.specs.Prelude.{◌-◌, ◌/◌, ◌≤◌, ◌<◌, min, ◌≡◌, length};
 ghost use Rattle.bundle_read.specs.Bundle.{blocks_for, event_count};
-ghost use Rattle.bundle_known.specs.Known.{unknown, said_in, index_of, whole_of, with_text, with_events};
+ghost use Rattle.bundle_known.specs.Known.{unknown, said_in, index_of, whole_of};
 ghost use Rattle.bundle_known.specs.Step.{Advanced, RanAll, RanEvents, Ran};
 
-use bundle_block::{Refusal, Verdict};
+use bundle_block::Refusal;
 use bundle_read::{EVENT_KIND, TEXT_KIND};
 use bundle_run::BLOCK;
 use event::Event;
+use lent::Writer;
 
 // What a block of either kind can hold.
 const ROOM: usize = bundle_read::TEXT_ROOM;
@@ -17,7 +18,8 @@ const ROOM: usize = bundle_read::TEXT_ROOM;
 const RECORD: u32 = Event::SIZE as u32;
 
 // Whether block 0 has come, what it says (lengths in bytes), and how much of text and events has come. Lengths are 32 bits
-// wide, so that no sum of theirs can overflow, whatever a caller makes of them.
+// wide, so that no sum of theirs can overflow, whatever a caller makes of them. A flag and no Option: the numbers of a state that C hands
+// over (`notepage_feed_bundle`) go back to it where the flag is off too.
 #[derive(Clone, Copy)]
 pub struct Known {
     pub begun: bool,
@@ -28,18 +30,18 @@ pub struct Known {
     pub events_came: u32,
 }
 
-// How many bytes were taken, and what is known then; or a block's refusal.
+// What is known behind some bytes, and how many of them were taken.
 #[derive(Clone, Copy)]
-pub enum Step {
-    Next(Known, usize),
-    Stop(Refusal),
+pub struct Step {
+    pub known: Known,
+    pub taken: usize,
 }
 
 // How many bytes of the text, or of the events, have come, and how many bytes of the blocks were taken.
 #[derive(Clone, Copy)]
-pub enum Run {
-    Took(u32, usize),
-    Stopped(Refusal),
+pub struct Run {
+    pub came: u32,
+    pub taken: usize,
 }
 
 // Before the first block.
@@ -64,20 +66,17 @@ pub fn is_whole(k: Known) -> bool
 }
 
 // Takes as many of the bytes as are whole blocks that are due, and writes what they hold into the buffers.
-pub fn advance(k: Known, bytes: &[u8], text: &mut [u8], events: &mut [u8]) -> Step
+pub fn advance(k: Known, bytes: &[u8], text: &mut [u8], events: &mut [u8]) -> Result<Step, Refusal>
     ensures { Advanced k text.old events.old bytes.now text.new events.new result }
 {
     if k.begun {
         return take_runs(k, bytes, 0, text, events);
     }
     if bytes.len() < BLOCK {
-        return Step::Next(k, 0);
+        return Ok(Step { known: k, taken: 0 });
     }
-    let verdict = bundle_read::judge_header(bytes);
-    match verdict {
-        Verdict::Bad(r) => Step::Stop(r),
-        Verdict::Good => take_runs(said(bytes), bytes, BLOCK, text, events),
-    }
+    bundle_read::judge_header(bytes)?;
+    take_runs(said(bytes), bytes, BLOCK, text, events)
 }
 
 // What block 0 says.
@@ -96,7 +95,13 @@ fn said(bytes: &[u8]) -> Known
 }
 
 // The bytes from a place on: the text blocks, then the event blocks.
-fn take_runs(k: Known, bytes: &[u8], from: usize, text: &mut [u8], events: &mut [u8]) -> Step
+fn take_runs(
+    k: Known,
+    bytes: &[u8],
+    from: usize,
+    text: &mut [u8],
+    events: &mut [u8],
+) -> Result<Step, Refusal>
     requires { from ≤ length bytes.now }
     ensures { RanAll k from text.old events.old bytes.now text.new events.new result }
 {
@@ -108,14 +113,15 @@ fn take_runs(k: Known, bytes: &[u8], from: usize, text: &mut [u8], events: &mut 
         k.text,
         &bytes[from..],
         text,
-    );
-    match run {
-        Run::Stopped(r) => Step::Stop(r),
-        Run::Took(came, taken) => take_events(with_text(k, came), bytes, from + taken, events),
-    }
+    )?;
+    let known = Known {
+        text_came: run.came,
+        ..k
+    };
+    take_events(known, bytes, from + run.taken, events)
 }
 
-fn take_events(k: Known, bytes: &[u8], from: usize, events: &mut [u8]) -> Step
+fn take_events(k: Known, bytes: &[u8], from: usize, events: &mut [u8]) -> Result<Step, Refusal>
     requires { from ≤ length bytes.now }
     ensures { RanEvents k from events.old bytes.now events.new result }
 {
@@ -127,11 +133,15 @@ fn take_events(k: Known, bytes: &[u8], from: usize, events: &mut [u8]) -> Step
         k.events,
         &bytes[from..],
         events,
-    );
-    match run {
-        Run::Stopped(r) => Step::Stop(r),
-        Run::Took(came, taken) => Step::Next(with_events(k, came), from + taken),
-    }
+    )?;
+    let known = Known {
+        events_came: run.came,
+        ..k
+    };
+    Ok(Step {
+        known,
+        taken: from + run.taken,
+    })
 }
 
 // The blocks of one kind that are there and due, the first of which has the number `index`: judged where they stand, then copied.
@@ -143,40 +153,30 @@ fn take_run(
     total: u32,
     bytes: &[u8],
     out: &mut [u8],
-) -> Run
+) -> Result<Run, Refusal>
     requires { index < 1000000000 }
     ensures { Ran edition kind index came total out.old bytes.now out.new result }
 {
-    let left = rest(came, total) as usize;
+    let left = total.saturating_sub(came) as usize;
     let count = due(bytes.len(), came, total);
-    let verdict = bundle_run::judge_run(bytes, edition, kind, ROOM, index, index + count, left);
-    match verdict {
-        Verdict::Bad(r) => Run::Stopped(r),
-        Verdict::Good => {
-            bundle_run::copy_run(bytes, ROOM, count, left, out, came as usize);
-            Run::Took(
-                came + bundle_block::least(ROOM * count, left) as u32,
-                BLOCK * count,
-            )
-        }
-    }
+    bundle_run::judge_run(bytes, edition, kind, ROOM, index, index + count, left)?;
+    let mut held = Writer {
+        bytes: out,
+        at: came as usize,
+    };
+    bundle_run::copy_run(bytes, ROOM, count, left, &mut held);
+    Ok(Run {
+        came: came + (ROOM * count).min(left) as u32,
+        taken: BLOCK * count,
+    })
 }
 
 // How many blocks of so many bytes are whole and due.
 fn due(bytes: usize, came: u32, total: u32) -> usize
     ensures { (result ≡ min (bytes / 512) (blocks_for 500 (total - came))) × (result < 10000000) }
 {
-    bundle_block::least(bytes / BLOCK, blocks_for(rest(came, total)))
-}
-
-// How much has still to come.
-fn rest(came: u32, total: u32) -> u32
-    ensures { result ≡ total - came }
-{
-    if came < total {
-        return total - came;
-    }
-    0
+    let left = total.saturating_sub(came);
+    (bytes / BLOCK).min(blocks_for(left))
 }
 
 // The number of the block that comes next.
@@ -190,31 +190,5 @@ fn index(k: Known) -> usize
 fn blocks_for(bytes: u32) -> usize
     ensures { (result ≡ blocks_for 500 bytes) × (result < 10000000) }
 {
-    (bytes as usize + (ROOM - 1)) / ROOM
-}
-
-fn with_text(k: Known, came: u32) -> Known
-    ensures { result ≡ with_text k came }
-{
-    Known {
-        begun: k.begun,
-        edition: k.edition,
-        text: k.text,
-        events: k.events,
-        text_came: came,
-        events_came: k.events_came,
-    }
-}
-
-fn with_events(k: Known, came: u32) -> Known
-    ensures { result ≡ with_events k came }
-{
-    Known {
-        begun: k.begun,
-        edition: k.edition,
-        text: k.text,
-        events: k.events,
-        text_came: k.text_came,
-        events_came: came,
-    }
+    bundle_read::blocks_for(ROOM, bytes as usize)
 }

@@ -1,28 +1,20 @@
 -- What the calls go by: the answer is repeated, refusal 1, and a part or the end. Assumes nothing.
-use Rattle.std.specs.Prelude.{if◌then◌else◌}
-use mathlib.Core.Path.{◌≡◌, refl, sym, ap, ◌∙◌}
-use mathlib.Core.Bool.{Bool, true, false, not, ◌&&◌, or-true}
-use mathlib.Core.List.{List, [], ◌∷◌, ◌++◌}
-use Prim.Native.Nat.{ℕ, ◌<◌, min}
-use native.Mathlib.Decide.{dec_le}
-use native.Mathlib.Omega.{arith}
-use lib.ListN.{length, take, length-take, length-replicate}
+use Rattle.std.proofs.Common.{is_some, true≢false, Some, None, Ok, if◌then◌else◌, ◌≡◌, refl, sym, ap, ◌∙◌, Bool, true, false, not, ◌&&◌, List, [], ◌∷◌, ◌++◌, ℕ, ◌<◌, min, arith, length, take, length-take}
+use Rattle.std.proofs.Math.Bool.{or-true}
+use Rattle.std.proofs.Math.Decide.{dec_le}
+use Rattle.std.proofs.Math.ListN.{length-replicate}
 use Rattle.lent.specs.Fill.{zeros}
 use Rattle.bundle_block.specs.declared.Refusal.TheVariants.{Short, Broken}
-use Rattle.bundle_read.specs.declared.Answer.{Answer}
-use Rattle.bundle_read.specs.declared.Answer.TheVariants.{Bundle}
 use Rattle.bundle_known.specs.declared.Known.{Known}
 use Rattle.bundle_known.specs.Known.{unknown, whole_of, advance_of}
 use Rattle.bundle_known.proofs.Stepped.{whole-stays}
-use Rattle.bundle_parts.specs.declared.Progress.{Progress}
-use Rattle.bundle_parts.specs.declared.Progress.TheVariants.{More, Done}
+use Rattle.bundle_parts.specs.Feed.{Stand, unless_done, Progress, standing, rest_of, start_of, is_empty, refused_at, kept, settled, fresh, feed_of, end_of}
 use Rattle.bundle_parts.specs.declared.State.{State}
 use Rattle.bundle_parts.specs.Late.{is_roomy}
-use Rattle.bundle_parts.specs.Feed.{standing, rest_of, start_of, is_empty, refused_at, kept, settled, fresh, feed_of, end_of}
 use Rattle.bundle_parts.specs.Private.{cleared_unless, TookMore, Finished}
 use Rattle.bundle_parts.proofs.Taking.{settled-long}
 
-pub new-stands : (rest : List ℕ) {s : State} {k : Known} → k ≡ unknown → s ≡ record { known = k; held = 0; over = false; progress = More } → (t e : List ℕ) → standing s rest t e ≡ start_of t e
+pub new-stands : (rest : List ℕ) {s : State} {k : Known} → k ≡ unknown → s ≡ record { known = k; held = 0; over = false; progress = None } → (t e : List ℕ) → standing s rest t e ≡ start_of t e
 new-stands rest p q t e = rw (q, p)
 
 -- ---- with a rest or without
@@ -72,7 +64,7 @@ module _ (s : State) (rest part t e : List ℕ) {held : ℕ} (p : held ≡ min s
     held-some : 0 < length (rest_of s rest)
     held-some = let a = length-take (min s.held 511) rest in elim (dec_le 1 held) [ yes i ↦ omega arith | no i ↦ absurd (z (omega arith)) ]
 
-    pub more-passed : (r : State) {w : Bool} → w ≡ whole_of s.known → w ≡ true → r ≡ record { known = s.known; held = 0; over = true; progress = More } → TookMore s rest part t e rest t e r
+    pub more-passed : (r : State) {w : Bool} → w ≡ whole_of s.known → w ≡ true → r ≡ record { known = s.known; held = 0; over = true; progress = None } → TookMore s rest part t e rest t e r
     unfolding kept
     more-passed r g v q =
         record {
@@ -97,36 +89,45 @@ module _ (s : State) (rest part t e : List ℕ) {held : ℕ} (p : held ≡ min s
 
 -- ---- a call
 
-module _ (s : State) (rest part t e : List ℕ) {q : Progress} (p : q ≡ s.progress) where
-  pub fed-done : {a : Answer} → q ≡ Done a → standing s rest t e ≡ feed_of (standing s rest t e) part
-  unfolding feed_of
-  fed-done g = rw (← p, g)
+-- an answer is there, or none
+answered-next : (p : Progress) (s next : Stand) → is_some p ≡ true → unless_done p s next ≡ s
+answered-next (Some a) s next h = refl
+answered-next None s next h = absurd (true≢false (sym h))
 
-  module _ (g : q ≡ More) {w : Bool} (h : w ≡ is_roomy (length t) (length e)) where
-    pub fed-more : {r : State} {rest' t' e' : List ℕ} → w ≡ true → TookMore s rest part t e rest' t' e' r → standing r rest' t' e' ≡ feed_of (standing s rest t e) part
+open-next : (p : Progress) (s next : Stand) → is_some p ≡ false → unless_done p s next ≡ next
+open-next (Some a) s next h = absurd (true≢false h)
+open-next None s next h = refl
+
+module _ (s : State) (t e : List ℕ) {b : Bool} (p : b ≡ is_some s.progress) where
+  module _ (rest part : List ℕ) where
+    pub fed-done : b ≡ true → standing s rest t e ≡ feed_of (standing s rest t e) part
     unfolding feed_of
-    fed-more v f = f.stands ∙ rw (← p, g, ← h, v)
+    fed-done g = rw (answered-next s.progress _ _ (sym p ∙ g))
 
-    pub fed-short : (r : State) {t' e' : List ℕ} → w ≡ false → ((x : List ℕ) → standing r x t' e' ≡ refused_at t e Short) → standing r rest t' e' ≡ feed_of (standing s rest t e) part
-    unfolding feed_of
-    fed-short r v f = f rest ∙ rw (← p, g, ← h, v)
+    module _ (g : b ≡ false) {w : Bool} (h : w ≡ is_roomy (length t) (length e)) where
+      pub fed-more : {r : State} {rest' t' e' : List ℕ} → w ≡ true → TookMore s rest part t e rest' t' e' r → standing r rest' t' e' ≡ feed_of (standing s rest t e) part
+      unfolding feed_of
+      fed-more v f = f.stands ∙ rw (open-next s.progress _ _ (sym p ∙ g), ← h, v)
 
-module _ (s : State) (t e : List ℕ) {q : Progress} (p : q ≡ s.progress) where
-  pub ended-done : {a : Answer} → q ≡ Done a → (rest : List ℕ) → standing s rest t e ≡ end_of (standing s rest t e)
+      pub fed-short : (r : State) {t' e' : List ℕ} → w ≡ false → ((x : List ℕ) → standing r x t' e' ≡ refused_at t e Short) → standing r rest t' e' ≡ feed_of (standing s rest t e) part
+      unfolding feed_of
+      fed-short r v f = f rest ∙ rw (open-next s.progress _ _ (sym p ∙ g), ← h, v)
+
+  pub ended-done : b ≡ true → (rest : List ℕ) → standing s rest t e ≡ end_of (standing s rest t e)
   unfolding end_of
-  ended-done g rest = rw (← p, g)
+  ended-done g rest = rw (answered-next s.progress _ _ (sym p ∙ g))
 
-  module _ (g : q ≡ More) {w : Bool} (h : w ≡ is_roomy (length t) (length e)) where
+  module _ (g : b ≡ false) {w : Bool} (h : w ≡ is_roomy (length t) (length e)) where
     pub ended-finished : {r : State} {t' e' : List ℕ} → w ≡ true → Finished s.known s.over t e t' e' r → (rest : List ℕ) → standing r rest t' e' ≡ end_of (standing s rest t e)
     unfolding end_of
-    ended-finished v f rest = f.stands rest ∙ rw (← p, g, ← h, v)
+    ended-finished v f rest = f.stands rest ∙ rw (open-next s.progress _ _ (sym p ∙ g), ← h, v)
 
     pub ended-short : (r : State) {t' e' : List ℕ} → w ≡ false → ((x : List ℕ) → standing r x t' e' ≡ refused_at t e Short) → (rest : List ℕ) → standing r rest t' e' ≡ end_of (standing s rest t e)
     unfolding end_of
-    ended-short r v f rest = f rest ∙ rw (← p, g, ← h, v)
+    ended-short r v f rest = f rest ∙ rw (open-next s.progress _ _ (sym p ∙ g), ← h, v)
 
 module _ (k : Known) (over : Bool) (t e : List ℕ) {w : Bool} (h : w ≡ whole_of k) where
-  pub finished-whole : {r : State} → (w && not over) ≡ true → r ≡ record { known = k; held = 0; over = over; progress = Done (Bundle k.text k.events k.edition) } → Finished k over t e t e r
+  pub finished-whole : {r : State} → (w && not over) ≡ true → r ≡ record { known = k; held = 0; over = over; progress = Some (Ok (record { text = k.text; events = k.events; edition = k.edition })) } → Finished k over t e t e r
   finished-whole v q = record { stands = λ rest. rw (q, ← h, v) }
 
   pub finished-broken : {r : State} {t' e' : List ℕ} → (w && not over) ≡ false → ((x : List ℕ) → standing r x t' e' ≡ refused_at t e (Broken 0)) → Finished k over t e t' e' r

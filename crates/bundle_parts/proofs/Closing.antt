@@ -1,25 +1,17 @@
 -- The end, after all bytes in one part or none. Assumes nothing.
-use Rattle.std.specs.Prelude.{if◌then◌else◌}
-use mathlib.Core.Path.{◌≡◌, refl, sym, ap, ◌∙◌}
-use mathlib.Core.Bool.{Bool, true, false, not, ◌&&◌}
-use mathlib.Core.List.{List, []}
-use Prim.Native.Nat.{ℕ, ◌≤◌, ◌<◌}
-use native.Mathlib.Decide.{dec_le, ℕ_discrete}
-use native.Mathlib.Omega.{arith}
+use Rattle.std.proofs.Common.{Some, None, if◌then◌else◌, ◌≡◌, refl, sym, ap, ◌∙◌, Bool, true, false, not, ◌&&◌, List, [], ℕ, ◌≤◌, ◌<◌, arith, length, length-append, Ok, Err}
+use Rattle.std.proofs.Math.Decide.{dec_le, ℕ_discrete}
 use borrow.Author.Tests.{lt-leb}
-use lib.ListN.{length, length-append, length-replicate}
+use Rattle.std.proofs.Math.ListN.{length-replicate}
 use Rattle.lent.specs.Fill.{fill, zeros}
 use Rattle.bundle_block.specs.declared.Refusal.{Refusal}
 use Rattle.bundle_block.specs.declared.Refusal.TheVariants.{Short, Broken}
-use Rattle.bundle_block.specs.declared.Verdict.{Verdict}
-use Rattle.bundle_block.specs.declared.Verdict.TheVariants.{Good, Bad}
-use Rattle.bundle_block.specs.Block.{edition_in}
-use Rattle.bundle_read.specs.declared.Answer.{Answer}
+use Rattle.bundle_block.specs.Block.{Verdict, edition_in}
+use Rattle.bundle_read.specs.Read.{Answer}
 use Rattle.bundle_read.specs.Bundle.{text_length, event_length, refused, meant}
 use Rattle.bundle_read.proofs.Bundle.{sound, length-text, length-events, numbered}
 use Rattle.bundle_known.specs.declared.Known.{Known}
 use Rattle.bundle_known.specs.Known.{whole_of}
-use Rattle.bundle_parts.specs.declared.Progress.TheVariants.{More, Done}
 use Rattle.bundle_parts.specs.Late.{judge_came, judge_late, text_so_far, events_so_far, read_late, call_late}
 use Rattle.bundle_parts.specs.Feed.{Stand, start_of, is_empty, refused_at, kept, roomy, feed_of, answered, end_of}
 use Rattle.bundle_parts.specs.Parts.{SoFar, HasReadLate}
@@ -32,11 +24,11 @@ use Rattle.bundle_parts.proofs.Start.{short-start, short-came, more-start, bad-s
 -- ---- the end, by where it stands
 
 module _ (s : Stand) where
-  pub end-done : {a : Answer} → s.progress ≡ Done a → end_of s ≡ s
+  pub end-done : {a : Answer} → s.progress ≡ Some a → end_of s ≡ s
   unfolding end_of
   end-done p = rw p
 
-  module _ (p : s.progress ≡ More) where
+  module _ (p : s.progress ≡ None) where
     end_short : roomy s.text s.events ≡ false → end_of s ≡ refused_at s.text s.events Short
     unfolding end_of
     end_short q = rw (p, q)
@@ -51,7 +43,7 @@ module _ (s : Stand) where
       end-answered r = rw (p, q, r)
 
 pick_ends : (b over : Bool) (k : Known) (t e left : List ℕ) (s : Stand) → whole_of k ≡ b
-    → s ≡ (if b then record { known = k; rest = []; over = not (is_empty left); progress = More; text = t; events = e } else record { known = k; rest = left; over = false; progress = More; text = t; events = e })
+    → s ≡ (if b then record { known = k; rest = []; over = not (is_empty left); progress = None; text = t; events = e } else record { known = k; rest = left; over = false; progress = None; text = t; events = e })
     → (s.known ≡ k) × ((whole_of s.known && not s.over) ≡ (whole_of k && is_empty left))
 pick_ends true over k t e left s w p = (rw p, rw (p, w) (not-not (is_empty left)))
   where
@@ -79,27 +71,27 @@ module _ (l t e : List ℕ) where
     unfolding call_late read_late
     call-meant p = rw (room, p)
 
-    late-other : judge_came l ≡ Good → (length l ≡ asked l → ⊥) → judge_late l ≡ Bad (Broken 0)
+    late-other : judge_came l ≡ Ok tt → (length l ≡ asked l → ⊥) → judge_late l ≡ Err (Broken 0)
     unfolding judge_late
     late-other p q = rw p (other-bad l q)
 
-    late-exact : judge_came l ≡ Good → length l ≡ asked l → judge_late l ≡ Good
+    late-exact : judge_came l ≡ Ok tt → length l ≡ asked l → judge_late l ≡ Ok tt
     unfolding judge_late
     late-exact p q = rw p (exact-good l q)
 
-    late-bad : {r : Refusal} → judge_came l ≡ Bad r → judge_late l ≡ Bad r
+    late-bad : {r : Refusal} → judge_came l ≡ Err r → judge_late l ≡ Err r
     unfolding judge_late
     late-bad p = rw p
 
     -- the state while more is wanted, and that the length is not the one asked for
-    broken-late : (s : Stand) → SoFar l t e s → (whole_of s.known && not s.over) ≡ false → judge_came l ≡ Good → (length l ≡ asked l → ⊥) → length (text_so_far l) ≤ length t → length (events_so_far l) ≤ length e → HasReadLate l t e (end_of s)
+    broken-late : (s : Stand) → SoFar l t e s → (whole_of s.known && not s.over) ≡ false → judge_came l ≡ Ok tt → (length l ≡ asked l → ⊥) → length (text_so_far l) ≤ length t → length (events_so_far l) ≤ length e → HasReadLate l t e (end_of s)
     broken-late s f x p q i j =
         let m : length s.text ≡ length t = ap length f.text ∙ simp (length-append, length-replicate) (omega arith) in
         let n : length s.events ≡ length e = ap length f.events ∙ simp (length-append, length-replicate) (omega arith) in
         refused-late s.text s.events (end_of s) (call-meant (late-other p q)) m n (end-broken s f.more (rw (m, n) room) x)
 
     exact-late : (s : Stand) → SoFar l t e s → (whole_of s.known && not s.over) ≡ true → s.known.text ≡ text_length l → s.known.events ≡ event_length l → s.known.edition ≡ edition_in l
-        → judge_came l ≡ Good → length l ≡ asked l → length (text_so_far l) ≤ length t → length (events_so_far l) ≤ length e → HasReadLate l t e (end_of s)
+        → judge_came l ≡ Ok tt → length l ≡ asked l → length (text_so_far l) ≤ length t → length (events_so_far l) ≤ length e → HasReadLate l t e (end_of s)
     exact-late s f x a b c p q i j =
         let m : length s.text ≡ length t = ap length f.text ∙ simp (length-append, length-replicate) (omega arith) in
         let n : length s.events ≡ length e = ap length f.events ∙ simp (length-append, length-replicate) (omega arith) in
@@ -123,7 +115,7 @@ module _ (l t e : List ℕ) where
         let j : length (events_so_far l) ≤ length e = rw n (omega arith) in
         broken-late (feed_of (start_of t e) l) (short-so-far l t e room h) (rw s) (short-came l t e room h) (λ q. omega arith) i j
 
-    module _ (h : 512 ≤ length l) (p : judge_came l ≡ Good) where
+    module _ (h : 512 ≤ length l) (p : judge_came l ≡ Ok tt) where
       came : Stand
       came = feed_of (start_of t e) l
 
@@ -149,12 +141,12 @@ module _ (l t e : List ℕ) where
     one-late = by (judge_came l) refl
       where
         by : (v : Verdict) → judge_came l ≡ v → HasReadLate l t e (end_of (feed_of (start_of t e) l))
-        by Good p =
+        by (Ok o) p =
             elim (dec_le 512 (length l)) [
               | yes h ↦ good-late h p
               | no h ↦ short-late (omega arith)
             ]
-        by (Bad r) p =
+        by (Err r) p =
             elim (dec_le 512 (length l)) [
               | yes h ↦
                   let s = bad-start l t e room h p in

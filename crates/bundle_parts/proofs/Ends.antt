@@ -1,15 +1,9 @@
 -- At the end: all blocks and no byte behind them have come exactly where the length and the count are right. Assumes nothing.
-use mathlib.Core.Path.{◌≡◌, refl, ◌∙◌}
-use mathlib.Core.Bool.{true, false, ◌&&◌}
-use mathlib.Core.List.{List, [], ◌∷◌}
-use Prim.Native.Nat.{ℕ, ◌+◌, ◌-◌, ◌*◌, ◌/◌, ◌%◌, ◌≤◌, ◌<◌, min}
-use native.Mathlib.Decide.{dec_le}
-use native.Mathlib.Nat.{sub-zero}
-use native.Mathlib.Omega.{arith}
-use borrow.Author.Tests.{lt-ltb, le-ltb, le-leb, lt-leb, eq-eqb, ne_eqb}
-use lib.ListN.{length, length-drop}
+use Rattle.std.proofs.Common.{◌≡◌, refl, ◌∙◌, true, false, ◌&&◌, List, [], ◌∷◌, ℕ, ◌+◌, ◌-◌, ◌*◌, ◌/◌, ◌%◌, ◌≤◌, ◌<◌, min, arith, lt-ltb, le-ltb, le-leb, eq-eqb, ne_eqb, length, length-drop, Ok, Err}
+use Rattle.std.proofs.Math.Decide.{dec_le}
+use Rattle.std.proofs.Math.Nat.{sub-zero}
+use borrow.Author.Tests.{lt-leb}
 use Rattle.bundle_block.specs.declared.Refusal.TheVariants.{Broken}
-use Rattle.bundle_block.specs.declared.Verdict.TheVariants.{Good, Bad}
 use Rattle.bundle_block.specs.Block.{◌before◌}
 use Rattle.bundle_read.specs.Bundle.{blocks_for, text_length, event_length, text_blocks, event_blocks, judge_length, judge_count}
 use Rattle.bundle_known.specs.Known.{whole_of, taken}
@@ -31,7 +25,7 @@ abbrev pub asked : List ℕ → ℕ
 asked l = 512 * (1 + text_blocks l + event_blocks l)
 
 module _ (l : List ℕ) where
-  pub exact-good : length l ≡ asked l → (judge_length l before judge_count l) ≡ Good
+  pub exact-good : length l ≡ asked l → (judge_length l before judge_count l) ≡ Ok tt
   unfolding judge_length judge_count
   exact-good p =
       let a : 0 < length l = omega arith in
@@ -39,7 +33,7 @@ module _ (l : List ℕ) where
       let c : length l / 512 ≡ 1 + text_blocks l + event_blocks l = omega arith in
       rw (lt-ltb 0 (length l) a, b, eq-eqb (length l / 512) (1 + text_blocks l + event_blocks l) c)
 
-  pub other-bad : (length l ≡ asked l → ⊥) → (judge_length l before judge_count l) ≡ Bad (Broken 0)
+  pub other-bad : (length l ≡ asked l → ⊥) → (judge_length l before judge_count l) ≡ Err (Broken 0)
   unfolding judge_length judge_count
   other-bad p =
       elim (dec_le (length l % 512) 0) [

@@ -1,39 +1,34 @@
 -- Parts fed one after the other come to what the joined bytes come to, from any state. Assumes nothing.
-use Rattle.std.specs.Prelude.{if◌then◌else◌}
-use mathlib.Core.Path.{◌≡◌, refl, sym, ap, ◌∙◌}
-use mathlib.Core.Bool.{Bool, true, false, not, ◌&&◌, ◌||◌, or_assoc}
-use mathlib.Core.List.{List, [], ◌∷◌, ◌++◌, append_assoc, append-nil}
-use Prim.Native.Nat.{ℕ}
-use lib.ListN.{length, length-replicate}
+use Rattle.std.proofs.Common.{Some, None, if◌then◌else◌, ◌≡◌, refl, sym, ap, ◌∙◌, Bool, true, false, not, ◌&&◌, ◌||◌, List, [], ◌∷◌, ◌++◌, append_assoc, append-nil, ℕ, length}
+use Rattle.std.proofs.Math.Bool.{or_assoc}
+use Rattle.std.proofs.Math.ListN.{length-replicate}
 use Rattle.lent.specs.Fill.{zeros}
 use Rattle.bundle_block.specs.declared.Refusal.{Refusal}
 use Rattle.bundle_block.specs.declared.Refusal.TheVariants.{Short}
-use Rattle.bundle_read.specs.declared.Answer.{Answer}
+use Rattle.bundle_read.specs.Read.{Answer}
 use Rattle.bundle_known.specs.declared.Known.{Known}
 use Rattle.bundle_known.specs.Known.{whole_of, Came, goes, stops, ◌then◌, advance_of}
 use Rattle.bundle_known.proofs.Resume.{later, advance-both}
 use Rattle.bundle_known.proofs.Stepped.{Stepped, stepped, whole-stays, whole-begun}
-use Rattle.bundle_parts.specs.declared.Progress.{Progress}
-use Rattle.bundle_parts.specs.declared.Progress.TheVariants.{More, Done}
-use Rattle.bundle_parts.specs.Feed.{Stand, is_empty, refused_at, kept, settled, fresh, roomy, feed_of}
+use Rattle.bundle_parts.specs.Feed.{Progress, Stand, is_empty, refused_at, kept, settled, fresh, roomy, feed_of}
 use Rattle.bundle_parts.specs.Parts.{joined, fed_of}
 use Rattle.bundle_parts.proofs.Taking.{settled-long}
 
 -- ---- a call, by where it stands
 
 module _ (s : Stand) (part : List ℕ) where
-  pub feed-done : {a : Answer} → s.progress ≡ Done a → feed_of s part ≡ s
+  pub feed-done : {a : Answer} → s.progress ≡ Some a → feed_of s part ≡ s
   unfolding feed_of
   feed-done p = rw p
 
   pub opened : Came
   opened = advance_of s.known (fresh s.known s.rest s.text) (fresh s.known s.rest s.events) (s.rest ++ part)
 
-  pub feed-short : s.progress ≡ More → roomy s.text s.events ≡ false → feed_of s part ≡ refused_at s.text s.events Short
+  pub feed-short : s.progress ≡ None → roomy s.text s.events ≡ false → feed_of s part ≡ refused_at s.text s.events Short
   unfolding feed_of
   feed-short p q = rw (p, q)
 
-  pub feed-open : s.progress ≡ More → roomy s.text s.events ≡ true → feed_of s part ≡ settled s.over s.text s.events opened
+  pub feed-open : s.progress ≡ None → roomy s.text s.events ≡ true → feed_of s part ≡ settled s.over s.text s.events opened
   unfolding feed_of opened
   feed-open p q = rw (p, q)
 
@@ -67,7 +62,7 @@ empty-both (x ∷ l) m = refl
 
 -- ---- one part, then another
 
-module _ (s : Stand) (a b : List ℕ) (p : s.progress ≡ More) (q : roomy s.text s.events ≡ true) where
+module _ (s : Stand) (a b : List ℕ) (p : s.progress ≡ None) (q : roomy s.text s.events ≡ true) where
   abbrev t : List ℕ
   t = fresh s.known s.rest s.text
 
@@ -109,7 +104,7 @@ module _ (s : Stand) (a b : List ℕ) (p : s.progress ≡ More) (q : roomy s.tex
     goes-rest : whole_of k ≡ false → feed_of (feed_of s a) b ≡ feed_of s (a ++ b)
     unfolding kept opened
     goes-rest w =
-        let next : Stand = record { known = k; rest = left; over = s.over; progress = More; text = t'; events = e' } in
+        let next : Stand = record { known = k; rest = left; over = s.over; progress = None; text = t'; events = e' } in
         let x = not-again s.text t' (λ m. (facts.unbegun m).1) in
         let y = not-again s.events e' (λ m. (facts.unbegun m).2) in
         let first : feed_of s a ≡ next = feed-open s a p q ∙ rw (g, w) in
@@ -121,7 +116,7 @@ module _ (s : Stand) (a b : List ℕ) (p : s.progress ≡ More) (q : roomy s.tex
     goes-past : whole_of k ≡ true → feed_of (feed_of s a) b ≡ feed_of s (a ++ b)
     unfolding kept opened
     goes-past w =
-        let next : Stand = record { known = k; rest = []; over = s.over || not (is_empty left); progress = More; text = t'; events = e' } in
+        let next : Stand = record { known = k; rest = []; over = s.over || not (is_empty left); progress = None; text = t'; events = e' } in
         let first : feed_of s a ≡ next = feed-open s a p q ∙ rw (g, w) in
         let m = whole-begun k w in
         let second = rw (fresh-begun k [] t' m, fresh-begun k [] e' m, whole-stays k t' e' b w, w, or_assoc s.over (not (is_empty left)) (not (is_empty b)), ← empty-both left b) at (feed-open next b refl still-roomy) in
@@ -149,9 +144,9 @@ pub feed-feed : (s : Stand) (a b : List ℕ) → feed_of (feed_of s a) b ≡ fee
 feed-feed s a b = by s.progress refl (roomy s.text s.events) refl
   where
     by : (p : Progress) → s.progress ≡ p → (x : Bool) → roomy s.text s.events ≡ x → feed_of (feed_of s a) b ≡ feed_of s (a ++ b)
-    by (Done z) p x q = rw (feed-done s a p) (feed-done s b p ∙ sym (feed-done s (a ++ b) p))
-    by More p true q = went_on s a b p q
-    by More p false q =
+    by (Some z) p x q = rw (feed-done s a p) (feed-done s b p ∙ sym (feed-done s (a ++ b) p))
+    by None p true q = went_on s a b p q
+    by None p false q =
         rw (feed-short s a p q) (feed-done (refused_at s.text s.events Short) b refl ∙ sym (feed-short s (a ++ b) p q))
 
 -- any number of parts

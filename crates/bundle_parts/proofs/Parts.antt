@@ -1,12 +1,8 @@
 -- The promise of the reader in parts: whatever the cut, the parts and the end come to what the definition says of the joined bytes. Assumes nothing.
-use mathlib.Core.Path.{◌≡◌, refl, sym, ap, ◌∙◌}
-use mathlib.Core.Bool.{Bool, true, false}
-use mathlib.Core.List.{List, [], ◌∷◌, ◌++◌}
-use Prim.Native.Nat.{ℕ}
+use Rattle.std.proofs.Common.{Some, ◌≡◌, refl, sym, ap, ◌∙◌, Bool, true, false, List, [], ◌∷◌, ◌++◌, ℕ}
 use Rattle.bundle_block.specs.declared.Refusal.TheVariants.{Short}
 use Rattle.bundle_block.specs.Block.{◌before◌, demand}
-use Rattle.bundle_read.specs.declared.Answer.{Answer}
-use Rattle.bundle_parts.specs.declared.Progress.TheVariants.{Done}
+use Rattle.bundle_read.specs.Read.{Answer}
 use Rattle.bundle_parts.specs.Late.{judge_came}
 use Rattle.bundle_parts.specs.declared.Reader.{Reader}
 use Rattle.bundle_parts.specs.Feed.{Stand, stand_of, start_of, roomy, feed_of, end_of}
@@ -31,7 +27,7 @@ ended t e (part ∷ parts) = rw (fed-joined (start_of t e) part parts) (all-late
 -- ---- after an answer
 
 -- further calls repeat it, whatever is handed over, and leave the buffers as they are
-pub repeated : (s : Stand) {a : Answer} → s.progress ≡ Done a → (parts : List (List ℕ)) → (fed_of s parts ≡ s) × (end_of s ≡ s)
+pub repeated : (s : Stand) {a : Answer} → s.progress ≡ Some a → (parts : List (List ℕ)) → (fed_of s parts ≡ s) × (end_of s ≡ s)
 repeated s p [] = (refl, end-done s p)
 repeated s p (part ∷ parts) = rw (feed-done s part p) (repeated s p parts)
 

@@ -1,23 +1,14 @@
 -- All bytes in one part: the refusal of the first block at fault that has come whole, or what has come so far with zeros behind it. Assumes nothing.
-use Rattle.std.specs.Prelude.{if◌then◌else◌}
-use mathlib.Core.Path.{◌≡◌, refl, ◌∙◌}
-use mathlib.Core.Bool.{Bool, true, false, not, ◌&&◌, ◌||◌}
-use mathlib.Core.List.{List, [], ◌++◌}
-use Prim.Native.Nat.{ℕ, zero, suc, ◌+◌, ◌-◌, ◌*◌, ◌≤◌, ◌<◌}
-use native.Mathlib.Decide.{dec_le}
-use native.Mathlib.Nat.{zero-add, zero-sub, suc-sub-suc, sub-zero}
-use native.Mathlib.Omega.{arith}
-use borrow.Author.Tests.{leb-true, le-leb, lt-leb}
-use lib.Dec.{leb}
-use lib.ListN.{length, take, drop, length-append, length-drop, length-replicate}
-use lib.Seq.{take_all}
+use Rattle.std.proofs.Common.{None, if◌then◌else◌, ◌≡◌, refl, ◌∙◌, Bool, true, false, not, ◌&&◌, ◌||◌, List, [], ◌++◌, ℕ, zero, suc, ◌+◌, ◌-◌, ◌*◌, ◌≤◌, ◌<◌, zero-add, arith, leb-true, le-leb, leb, length, take, drop, length-append, length-drop, take_all, Ok, Err}
+use Rattle.std.proofs.Math.Decide.{dec_le}
+use Rattle.std.proofs.Math.Nat.{zero-sub, suc-sub-suc, sub-zero}
+use borrow.Author.Tests.{lt-leb}
+use Rattle.std.proofs.Math.ListN.{length-replicate}
 use Rattle.lent.specs.Fill.{fill, zeros}
 use Rattle.lent.proofs.Laws.{and_left, and_right}
 use Rattle.bundle_block.specs.declared.Refusal.{Refusal}
 use Rattle.bundle_block.specs.declared.Refusal.TheVariants.{Broken}
-use Rattle.bundle_block.specs.declared.Verdict.{Verdict}
-use Rattle.bundle_block.specs.declared.Verdict.TheVariants.{Good, Bad}
-use Rattle.bundle_block.specs.Block.{edition_in, ◌before◌, demand, judge_block}
+use Rattle.bundle_block.specs.Block.{Verdict, edition_in, ◌before◌, demand, judge_block}
 use Rattle.bundle_block.proofs.Block.{both-good, demanded-both}
 use Rattle.bundle_run.proofs.Split.{length_some}
 use Rattle.bundle_read.specs.Bundle.{text_length, event_count, event_length, text_blocks, text_part, event_part, judge_header}
@@ -25,7 +16,6 @@ use Rattle.bundle_read.specs.Sizes.{least_room, most_text, most_events, text_roo
 use Rattle.bundle_known.specs.declared.Known.{Known}
 use Rattle.bundle_known.specs.Known.{unknown, whole_of, goes, unless, advance_of}
 use Rattle.bundle_known.proofs.Resume.{no_block}
-use Rattle.bundle_parts.specs.declared.Progress.TheVariants.{More}
 use Rattle.bundle_parts.specs.Late.{text_blocks_came, event_blocks_came, judge_text_came, judge_events_came, judge_came, text_so_far, events_so_far}
 use Rattle.bundle_parts.specs.Feed.{Stand, start_of, is_empty, refused_at, kept, settled, roomy, feed_of}
 use Rattle.bundle_parts.specs.Parts.{SoFar, HasFed}
@@ -51,11 +41,11 @@ module _ (l t e : List ℕ) (room : roomy t e ≡ true) where
   unfolding feed_of
   start = rw room
 
-  pub short-start : length l < 512 → feed_of (start_of t e) l ≡ record { known = unknown; rest = l; over = false; progress = More; text = zeros (length t); events = zeros (length e) }
+  pub short-start : length l < 512 → feed_of (start_of t e) l ≡ record { known = unknown; rest = l; over = false; progress = None; text = zeros (length t); events = zeros (length e) }
   unfolding kept
   short-start h = start ∙ rw (no_block unknown (zeros (length t)) (zeros (length e)) l refl h)
 
-  pub short-came : length l < 512 → judge_came l ≡ Good
+  pub short-came : length l < 512 → judge_came l ≡ Ok tt
   unfolding judge_came
   short-came h = rw (lt-leb 512 (length l) h)
 
@@ -63,18 +53,18 @@ module _ (l t e : List ℕ) (room : roomy t e ≡ true) where
     whole-start : feed_of (start_of t e) l ≡ settled false t e (unless (judge_came l) (goes (known_in l h) (fill (zeros (length t)) 0 (text_so_far l)) (fill (zeros (length e)) 0 (events_so_far l)) (left_in l h)))
     whole-start = start ∙ rw (came-whole l h (zeros (length t)) (zeros (length e)))
 
-    pub more-start : judge_came l ≡ Good → feed_of (start_of t e) l ≡ kept false (known_in l h) (fill (zeros (length t)) 0 (text_so_far l)) (fill (zeros (length e)) 0 (events_so_far l)) (left_in l h)
+    pub more-start : judge_came l ≡ Ok tt → feed_of (start_of t e) l ≡ kept false (known_in l h) (fill (zeros (length t)) 0 (text_so_far l)) (fill (zeros (length e)) 0 (events_so_far l)) (left_in l h)
     more-start p = whole-start ∙ rw p
 
-    pub bad-start : {r : Refusal} → judge_came l ≡ Bad r → feed_of (start_of t e) l ≡ refused_at t e r
+    pub bad-start : {r : Refusal} → judge_came l ≡ Err r → feed_of (start_of t e) l ≡ refused_at t e r
     bad-start p = whole-start ∙ rw p
 
     -- what has come is no longer than the buffers
-    header-good : judge_came l ≡ Good → judge_header l ≡ Good
+    header-good : judge_came l ≡ Ok tt → judge_header l ≡ Ok tt
     unfolding judge_came
     header-good p = (both-good (judge_header l) (judge_text_came l before judge_events_came l) (rw (le-leb 512 (length l) h) at p)).0
 
-    sizes : judge_header l ≡ Good → (text_length l ≤ most_text) × (event_count l ≤ most_events)
+    sizes : judge_header l ≡ Ok tt → (text_length l ≤ most_text) × (event_count l ≤ most_events)
     unfolding judge_header
     sizes p =
         let f = both-good (judge_block (edition_in l) 0 header_kind header_used (take 512 l)) (demand (leb (text_length l) most_text && leb (event_count l) most_events) (Broken 0)) p in
@@ -87,7 +77,7 @@ module _ (l t e : List ℕ) (room : roomy t e ≡ true) where
       leb-true least_room (length e) (and_right (leb least_room (length t)) (leb least_room (length e)) room),
     )
 
-    pub text-fits : judge_came l ≡ Good → length (text_so_far l) ≤ length t
+    pub text-fits : judge_came l ≡ Ok tt → length (text_so_far l) ≤ length t
     unfolding text_so_far
     text-fits p =
         let s = sizes (header-good p) in
@@ -96,7 +86,7 @@ module _ (l t e : List ℕ) (room : roomy t e ≡ true) where
         let n = length_some text_room (text_blocks_came l) (text_length l) (text_part l) (omega arith) (omega arith) in
         rw (le-leb 512 (length l) h, n) (omega arith)
 
-    pub events-fit : judge_came l ≡ Good → length (events_so_far l) ≤ length e
+    pub events-fit : judge_came l ≡ Ok tt → length (events_so_far l) ≤ length e
     unfolding events_so_far
     events-fit p =
         let s = sizes (header-good p) in
@@ -108,12 +98,12 @@ module _ (l t e : List ℕ) (room : roomy t e ≡ true) where
 -- ---- while more is wanted
 
 pick_more : (b over : Bool) (k : Known) (t e left : List ℕ) (s : Stand)
-    → s ≡ (if b then record { known = k; rest = []; over = over || not (is_empty left); progress = More; text = t; events = e } else record { known = k; rest = left; over = over; progress = More; text = t; events = e })
-    → (s.progress ≡ More) × (s.text ≡ t) × (s.events ≡ e)
+    → s ≡ (if b then record { known = k; rest = []; over = over || not (is_empty left); progress = None; text = t; events = e } else record { known = k; rest = left; over = over; progress = None; text = t; events = e })
+    → (s.progress ≡ None) × (s.text ≡ t) × (s.events ≡ e)
 pick_more true over k t e left s p = (rw p, rw p, rw p)
 pick_more false over k t e left s p = (rw p, rw p, rw p)
 
-kept_more : (over : Bool) (k : Known) (t e left : List ℕ) (s : Stand) → s ≡ kept over k t e left → (s.progress ≡ More) × (s.text ≡ t) × (s.events ≡ e)
+kept_more : (over : Bool) (k : Known) (t e left : List ℕ) (s : Stand) → s ≡ kept over k t e left → (s.progress ≡ None) × (s.text ≡ t) × (s.events ≡ e)
 unfolding kept
 kept_more over k t e left s p = pick_more (whole_of k) over k t e left s p
 
@@ -125,7 +115,7 @@ module _ (l t e : List ℕ) (room : roomy t e ≡ true) where
       let n = lt-leb 512 (length l) h in
       record { more = rw s; text = rw (s, n, sub-zero); events = rw (s, n, sub-zero) }
 
-  pub whole-so-far : 512 ≤ length l → judge_came l ≡ Good → SoFar l t e (feed_of (start_of t e) l)
+  pub whole-so-far : 512 ≤ length l → judge_came l ≡ Ok tt → SoFar l t e (feed_of (start_of t e) l)
   whole-so-far h p =
       let f = kept_more false (known_in l h) (fill (zeros (length t)) 0 (text_so_far l)) (fill (zeros (length e)) 0 (events_so_far l)) (left_in l h) (feed_of (start_of t e) l) (more-start l t e room h p) in
       record {
@@ -135,12 +125,12 @@ module _ (l t e : List ℕ) (room : roomy t e ≡ true) where
       }
 
   pub one-fed : (v : Verdict) → judge_came l ≡ v → HasFed v l t e (feed_of (start_of t e) l)
-  one-fed Good p =
+  one-fed (Ok o) p =
       elim (dec_le 512 (length l)) [
         | yes h ↦ whole-so-far h p
         | no h ↦ short-so-far (omega arith)
       ]
-  one-fed (Bad r) p =
+  one-fed (Err r) p =
       elim (dec_le 512 (length l)) [
         | yes h ↦ bad-start l t e room h p
         | no h ↦ let q = short-came l t e room (omega arith) in let z : ◌≡◌ {A = ℕ} 0 1 = cc in absurd (omega arith)

@@ -1,16 +1,18 @@
 -- The reader in parts (RULES R15.9), call by call, on all inputs: what a part and the end make of a state and the two buffers. What calls that follow each other come to is said by the joined bytes (Late, Parts). Assumes nothing.
-use Rattle.std.specs.Prelude.{Bool, true, false, not, ◌&&◌, ◌||◌, List, [], ◌∷◌, ◌++◌, ℕ, min, length, take, if◌then◌else◌}
+use Rattle.std.specs.Prelude.{Some, None, Ok, Err, Option, Bool, true, false, not, ◌&&◌, ◌||◌, List, [], ◌∷◌, ◌++◌, ℕ, min, length, take, if◌then◌else◌}
 use Rattle.lent.specs.Fill.{zeros}
 use Rattle.bundle_block.specs.declared.Refusal.{Refusal}
 use Rattle.bundle_block.specs.declared.Refusal.TheVariants.{Short, Broken}
-use Rattle.bundle_read.specs.declared.Answer.TheVariants.{Bundle, Refused}
 use Rattle.bundle_known.specs.declared.Known.{Known}
 use Rattle.bundle_known.specs.Known.{unknown, whole_of, Came, goes, stops, advance_of}
-use Rattle.bundle_parts.specs.declared.Progress.{Progress}
-use Rattle.bundle_parts.specs.declared.Progress.TheVariants.{More, Done}
+use Rattle.bundle_read.specs.Read.{Answer}
 use Rattle.bundle_parts.specs.declared.State.{State}
 use Rattle.bundle_parts.specs.declared.Reader.{Reader}
 use Rattle.bundle_parts.specs.Late.{is_roomy}
+
+-- the answer, or none while more is wanted
+abbrev pub Progress : Type 0
+Progress = Option Answer
 
 -- what a state and the buffers say: what is known, a block's rest, whether a byte came behind the last block, and the answer so far
 pub record Stand : Type 0 where
@@ -33,7 +35,7 @@ stand_of r t e = standing r.state r.rest t e
 
 -- before the first call
 abbrev pub start_of : (t e : List ℕ) → Stand
-start_of t e = record { known = unknown; rest = []; over = false; progress = More; text = t; events = e }
+start_of t e = record { known = unknown; rest = []; over = false; progress = None; text = t; events = e }
 
 abbrev pub is_empty : List ℕ → Bool
 is_empty [] = true
@@ -41,13 +43,13 @@ is_empty (b ∷ l) = false
 
 -- a refusal: both buffers are zero
 abbrev pub refused_at : (t e : List ℕ) → Refusal → Stand
-refused_at t e r = record { known = unknown; rest = []; over = false; progress = Done (Refused r); text = zeros (length t); events = zeros (length e) }
+refused_at t e r = record { known = unknown; rest = []; over = false; progress = Some (Err r); text = zeros (length t); events = zeros (length e) }
 
 -- bytes that no whole block takes are kept; behind the last block it is only known that there are some
 unfoldable pub kept : (over : Bool) → Known → (t e left : List ℕ) → Stand
 kept over k t e left =
-    if whole_of k then record { known = k; rest = []; over = over || not (is_empty left); progress = More; text = t; events = e }
-    else record { known = k; rest = left; over = over; progress = More; text = t; events = e }
+    if whole_of k then record { known = k; rest = []; over = over || not (is_empty left); progress = None; text = t; events = e }
+    else record { known = k; rest = left; over = over; progress = None; text = t; events = e }
 
 abbrev pub settled : (over : Bool) (t e : List ℕ) → Came → Stand
 settled over t e (goes k t' e' left) = kept over k t' e' left
@@ -59,8 +61,8 @@ fresh k rest d = if not k.begun && is_empty rest then zeros (length d) else d
 
 -- an answer is repeated, and refusal 1 comes before all that the call brings
 abbrev pub unless_done : Progress → Stand → Stand → Stand
-unless_done More s next = next
-unless_done (Done a) s next = s
+unless_done None s next = next
+unless_done (Some a) s next = s
 
 abbrev pub roomy : (t e : List ℕ) → Bool
 roomy t e = is_roomy (length t) (length e)
@@ -77,7 +79,7 @@ feed_of s part =
 
 -- the end: the bundle, where every block has come and no byte behind them
 abbrev pub answered : (over : Bool) → Known → (t e : List ℕ) → Stand
-answered over k t e = record { known = k; rest = []; over = over; progress = Done (Bundle k.text k.events k.edition); text = t; events = e }
+answered over k t e = record { known = k; rest = []; over = over; progress = Some (Ok (record { text = k.text; events = k.events; edition = k.edition })); text = t; events = e }
 
 abbrev pub closed : (over : Bool) → Known → (t e : List ℕ) → Stand
 closed over k t e = if whole_of k && not over then answered over k t e else refused_at t e (Broken 0)

@@ -1,9 +1,7 @@
 -- A bundle that comes in parts (RULES R15.10), on the joined bytes: as the whole-file reader's, but each block is judged once it has come whole, and what is wrong with the length only at the end. Assumes nothing.
-use Rattle.std.specs.Prelude.{Bool, ◌&&◌, List, [], ℕ, ◌+◌, ◌-◌, ◌/◌, min, leb, length, if◌then◌else◌}
+use Rattle.std.specs.Prelude.{Bool, ◌&&◌, List, [], ℕ, ◌+◌, ◌-◌, ◌/◌, min, leb, length, if◌then◌else◌, Ok}
 use Rattle.bundle_block.specs.declared.Refusal.TheVariants.{Short}
-use Rattle.bundle_block.specs.declared.Verdict.{Verdict}
-use Rattle.bundle_block.specs.declared.Verdict.TheVariants.{Good}
-use Rattle.bundle_block.specs.Block.{edition_in, ◌before◌}
+use Rattle.bundle_block.specs.Block.{Verdict, edition_in, ◌before◌}
 use Rattle.bundle_run.specs.Run.{judge_run, held_in}
 use Rattle.bundle_read.specs.Bundle.{text_length, event_length, text_blocks, event_blocks, text_part, event_part, judge_length, judge_header, judge_count, Meaning, refused, meant}
 use Rattle.bundle_read.specs.Sizes.{least_room, text_room, event_room, text_kind, event_kind}
@@ -29,7 +27,7 @@ module _ (bundle : List ℕ) where
 
   -- while it comes: each block that has come whole, in order; bytes behind the last one asked for are not judged
   unfoldable pub judge_came : Verdict
-  judge_came = if leb 512 (length bundle) then judge_header bundle before judge_text_came before judge_events_came else Good
+  judge_came = if leb 512 (length bundle) then judge_header bundle before judge_text_came before judge_events_came else Ok tt
 
   -- at the end: then length 0, no multiple of 512, and the count
   unfoldable pub judge_late : Verdict

@@ -2,34 +2,28 @@
 #![tactic(auto)]
 
 ghost use Rattle.std.specs.Prelude.{ℕ, ◌<◌, true, false, List, ◌++◌, ◌⊎◌, ◌≡◌, length, take};
-ghost use Rattle.lent.specs.Fill.{zeros};
+ghost use Rattle.lent.specs.Fill.{Filled, zeros};
 ghost use Rattle.bundle_known.specs.Known.{whole_of, advance_of};
 ghost use Rattle.bundle_parts.specs.Feed.{standing, stand_of, start_of, refused_at, kept, settled, feed_of, end_of};
 ghost use Rattle.bundle_parts.specs.Late.{is_roomy};
 ghost use Rattle.bundle_parts.specs.Private.{cleared_unless, TookMore, Finished};
 
 use bundle_block::Refusal;
-use bundle_known::{Known, Step};
-use bundle_read::{Answer, LEAST_ROOM};
+use bundle_known::Known;
+use bundle_read::{Contents, LEAST_ROOM};
 use bundle_run::BLOCK;
+use lent::Writer;
 
-// More is wanted, or the answer.
-#[derive(Clone, Copy)]
-pub enum Progress {
-    More,
-    Done(Answer),
-}
-
-// What is known, how many bytes of a block are held, whether a byte came behind the last block, and the answer so far.
+// What is known, how many bytes of a block are held, whether a byte came behind the last block, and the answer; none is there while more is wanted.
 #[derive(Clone, Copy)]
 pub struct State {
     pub known: Known,
     pub held: usize,
     pub over: bool,
-    pub progress: Progress,
+    pub progress: Option<Result<Contents, Refusal>>,
 }
 
-// A state between two calls, with a block's rest.
+// A state between two calls, with a block's rest. C keeps it too (`NotepageReader`), so the rest and how much of it counts stand apart.
 #[derive(Clone, Copy)]
 pub struct Reader {
     pub state: State,
@@ -41,7 +35,7 @@ pub fn new() -> Reader
     ensures { (t e : List ℕ) → stand_of result t e ≡ start_of t e }
 {
     Reader {
-        state: bare(bundle_known::nothing(), false, Progress::More),
+        state: bare(bundle_known::nothing(), false, None),
         rest: [0u8; 512],
     }
 }
@@ -64,16 +58,15 @@ pub fn end(reader: Reader, text: &mut [u8], events: &mut [u8]) -> Reader
     Reader { state, rest }
 }
 
-// The answer so far.
-pub fn so_far(reader: Reader) -> Progress
+// The answer, or none while more is wanted.
+pub fn so_far(reader: Reader) -> Option<Result<Contents, Refusal>>
     ensures { result ≡ reader.state.progress }
 {
-    let state = reader.state;
-    state.progress
+    reader.state.progress
 }
 
 // Nothing is held.
-fn bare(known: Known, over: bool, progress: Progress) -> State
+fn bare(known: Known, over: bool, progress: Option<Result<Contents, Refusal>>) -> State
     ensures { result ≡ record { known = known; held = 0; over = over; progress = progress } }
 {
     State {
@@ -95,9 +88,9 @@ fn feed_state(
     ensures { standing result rest.new text.new events.new ≡ feed_of (standing old rest.old text.old events.old) part.now }
 {
     let progress = old.progress;
-    let Progress::More = progress else {
+    if progress.is_some() {
         return old;
-    };
+    }
     if is_roomy(text.len(), events.len()) {
         return take_more(old, rest, part, text, events);
     }
@@ -108,9 +101,9 @@ fn end_state(state: State, text: &mut [u8], events: &mut [u8]) -> State
     ensures { (rest : List ℕ) → standing result rest text.new events.new ≡ end_of (standing state rest text.old events.old) }
 {
     let progress = state.progress;
-    let Progress::More = progress else {
+    if progress.is_some() {
         return state;
-    };
+    }
     if is_roomy(text.len(), events.len()) {
         return finish(state.known, state.over, text, events);
     }
@@ -122,12 +115,12 @@ fn finish(known: Known, over: bool, text: &mut [u8], events: &mut [u8]) -> State
     ensures { Finished known over text.old events.old text.new events.new result }
 {
     if bundle_known::is_whole(known) & !over {
-        let answer = Answer::Bundle {
+        let contents = Contents {
             text: known.text as usize,
             events: known.events as usize,
             edition: known.edition,
         };
-        return bare(known, over, Progress::Done(answer));
+        return bare(known, over, Some(Ok(contents)));
     }
     refuse(Refusal::Broken(0), text, events)
 }
@@ -143,11 +136,7 @@ fn refuse(refusal: Refusal, text: &mut [u8], events: &mut [u8]) -> State
     ensures { (rest : List ℕ) → standing result rest text.new events.new ≡ refused_at text.old events.old refusal }
 {
     clear_both(text, events);
-    bare(
-        bundle_known::nothing(),
-        false,
-        Progress::Done(Answer::Refused(refusal)),
-    )
+    bare(bundle_known::nothing(), false, Some(Err(refusal)))
 }
 
 // A part, and the rest before it, where no answer is there yet.
@@ -163,13 +152,13 @@ fn take_more(
 {
     let known = state.known;
     let over = state.over;
-    let held = bundle_block::least(state.held, BLOCK - 1);
+    let held = state.held.min(BLOCK - 1);
     if held == 0 {
         begin(known.begun, text, events);
         return take(known, over, rest, part, text, events);
     }
     if bundle_known::is_whole(known) {
-        return bare(known, true, Progress::More);
+        return bare(known, true, None);
     }
     join(known, over, rest, held, part, text, events)
 }
@@ -191,7 +180,8 @@ fn clear_both(text: &mut [u8], events: &mut [u8])
     lent::clear(events, 0);
 }
 
-// The rest goes on by the part; once it is a whole block, the block and what follows are taken.
+// The rest goes on by the part; once it is a whole block, the block and what follows are taken. The three buffers are passed as they are
+// lent: a struct of them would be taken apart at each call.
 fn join(
     known: Known,
     over: bool,
@@ -204,13 +194,13 @@ fn join(
     requires { (held < 512) × (whole_of known ≡ false) × (length rest.old ≡ 512) }
     ensures { standing result rest.new text.new events.new ≡ settled over text.old events.old (advance_of known text.old events.old (take held rest.old ++ part.now)) }
 {
-    let end = lent::put_all(rest, held, part);
+    let end = append(rest, held, part);
     if end < BLOCK {
         return State {
             known,
             held: end,
             over,
-            progress: Progress::More,
+            progress: None,
         };
     }
     let from = BLOCK - held;
@@ -230,8 +220,8 @@ fn take_block(
     ensures { standing result rest.new text.new events.new ≡ settled over text.old events.old (advance_of known text.old events.old (rest.old ++ part.now)) }
 {
     match bundle_known::advance(known, rest, text, events) {
-        Step::Stop(r) => refuse(r, text, events),
-        Step::Next(next, _) => take(next, over, rest, part, text, events),
+        Err(r) => refuse(r, text, events),
+        Ok(step) => take(step.known, over, rest, part, text, events),
     }
 }
 
@@ -247,9 +237,21 @@ fn take(
     ensures { standing result rest.new text.new events.new ≡ settled over text.old events.old (advance_of known text.old events.old part.now) }
 {
     match bundle_known::advance(known, part, text, events) {
-        Step::Stop(r) => refuse(r, text, events),
-        Step::Next(next, taken) => keep(next, over, rest, &part[taken..]),
+        Err(r) => refuse(r, text, events),
+        Ok(step) => keep(step.known, over, rest, &part[step.taken..]),
     }
+}
+
+// The rest goes on by a part, or by as much of it as fits. The place behind comes out.
+fn append(rest: &mut [u8; 512], held: usize, part: &[u8]) -> usize
+    ensures { Filled rest.old held part.now rest.new result }
+{
+    let mut whole = Writer {
+        bytes: rest,
+        at: held,
+    };
+    whole.put_all(part);
+    whole.at
 }
 
 // Bytes behind the last block are not kept: that there are some is enough.
@@ -258,13 +260,13 @@ fn keep(known: Known, over: bool, rest: &mut [u8; 512], left: &[u8]) -> State
     ensures { (t e : List ℕ) → standing result rest.new t e ≡ kept over known t e left.now }
 {
     if bundle_known::is_whole(known) {
-        return bare(known, over | (0 < left.len()), Progress::More);
+        return bare(known, over | (0 < left.len()), None);
     }
-    lent::put_all(rest, 0, left);
+    append(rest, 0, left);
     State {
         known,
         held: left.len(),
         over,
-        progress: Progress::More,
+        progress: None,
     }
 }

@@ -1,26 +1,13 @@
 -- What the code goes by on the whole bundle: what it is asked (RULES R15.6), one by one, and the call. Assumes nothing.
-use Rattle.std.specs.Prelude.{if◌then◌else◌}
-use mathlib.Core.Path.{◌≡◌, refl, sym, ap, subst, ◌∙◌}
-use mathlib.Core.Bool.{Bool, true, false, ◌&&◌}
-use mathlib.Core.List.{List, ◌++◌}
-use Prim.Native.Nat.{ℕ, ◌+◌, ◌-◌, ◌*◌, ◌/◌, ◌%◌, ◌≤◌}
-use native.Mathlib.Omega.{arith}
-use borrow.Author.Tests.{ltb-true, leb-true, eqb-true}
-use lib.Dec.{eqb, leb, ltb}
-use lib.ListN.{length, take, drop, length-drop}
-use lib.Seq.{take_all}
+use Rattle.std.proofs.Common.{if◌then◌else◌, ◌≡◌, refl, sym, ap, subst, ◌∙◌, Bool, true, false, ◌&&◌, List, ◌++◌, ℕ, ◌+◌, ◌-◌, ◌*◌, ◌/◌, ◌%◌, ◌≤◌, arith, ltb-true, leb-true, eqb-true, eqb, leb, ltb, length, take, drop, length-drop, take_all, Ok, Err}
 use Rattle.lent.specs.Fill.{zeros}
-use Rattle.bundle_read.specs.declared.Answer.{Answer}
-use Rattle.bundle_read.specs.declared.Answer.TheVariants.{Bundle, Refused}
 use Rattle.bundle_block.specs.declared.Refusal.{Refusal}
 use Rattle.bundle_block.specs.declared.Refusal.TheVariants.{Short, Broken, BadCheck, OtherEdition}
-use Rattle.bundle_block.specs.declared.Verdict.{Verdict}
-use Rattle.bundle_block.specs.declared.Verdict.TheVariants.{Good, Bad}
-use Rattle.bundle_block.specs.Block.{edition_in, ◌before◌, demand, judge_block}
+use Rattle.bundle_block.specs.Block.{Verdict, edition_in, ◌before◌, demand, judge_block}
 use Rattle.bundle_run.specs.Run.{judge_run, held_in}
 use Rattle.bundle_read.specs.Bundle.{text_length, event_count, event_length, text_blocks, event_blocks, text_part, event_part, text_in, events_in}
 use Rattle.bundle_read.specs.Bundle.{judge_length, judge_header, judge_count, judge_text, judge_events, judge_bundle, Meaning, says, refused, meant, read_of}
-use Rattle.bundle_read.specs.Read.{call_of, answer_of, Numbered, HasRead, judge_call}
+use Rattle.bundle_read.specs.Read.{Answer, call_of, answer_of, Numbered, HasRead, judge_call}
 use Rattle.bundle_read.specs.Sizes.{most_text, most_events, least_room, text_room, event_room, header_used, header_kind, text_kind, event_kind}
 use Rattle.bundle_block.proofs.Block.{first-bad, then_next, demanded, demanded-both, both-good}
 use Rattle.bundle_run.proofs.Run.{length-held}
@@ -57,27 +44,27 @@ module _ (l : List ℕ) {v : Verdict} where
 -- ---- the sentences in their order
 
 module _ (l : List ℕ) {x : Verdict} (p : x ≡ judge_length l) where
-  pub length-first : {r : Refusal} → x ≡ Bad r → x ≡ judge_bundle l
+  pub length-first : {r : Refusal} → x ≡ Err r → Err r ≡ judge_bundle l
   unfolding judge_bundle
   length-first q = first-bad p (judge_header l before judge_count l before judge_text l before judge_events l) q
 
-  module _ (p' : x ≡ Good) {y : Verdict} (q : y ≡ judge_header l) where
-    pub header-next : {r : Refusal} → y ≡ Bad r → y ≡ judge_bundle l
+  module _ (p' : x ≡ Ok tt) {y : Verdict} (q : y ≡ judge_header l) where
+    pub header-next : {r : Refusal} → y ≡ Err r → Err r ≡ judge_bundle l
     unfolding judge_bundle
     header-next r = then_next p p' (first-bad q (judge_count l before judge_text l before judge_events l) r)
 
-    module _ (q' : y ≡ Good) {z : Verdict} (r : z ≡ judge_count l) where
-      pub count_next : {f : Refusal} → z ≡ Bad f → z ≡ judge_bundle l
+    module _ (q' : y ≡ Ok tt) {z : Verdict} (r : z ≡ judge_count l) where
+      pub count_next : {f : Refusal} → z ≡ Err f → Err f ≡ judge_bundle l
       unfolding judge_bundle
       count_next s = then_next p p' (then_next q q' (first-bad r (judge_text l before judge_events l) s))
 
-      pub runs_last : {v : Verdict} → z ≡ Good → v ≡ (judge_text l before judge_events l) → v ≡ judge_bundle l
+      pub runs_last : {v : Verdict} → z ≡ Ok tt → v ≡ (judge_text l before judge_events l) → v ≡ judge_bundle l
       unfolding judge_bundle
       runs_last r' s = then_next p p' (then_next q q' (then_next r r' s))
 
 -- ---- what a good verdict says
 
-pub whole-blocks : (l : List ℕ) {v : Verdict} → v ≡ judge_length l → v ≡ Good → 512 ≤ length l
+pub whole-blocks : (l : List ℕ) {v : Verdict} → v ≡ judge_length l → v ≡ Ok tt → 512 ≤ length l
 unfolding judge_length
 whole-blocks l p q =
     let b = demanded-both (ltb 0 (length l)) (eqb (length l % 512) 0) (Broken 0) (sym p ∙ q) in
@@ -85,7 +72,7 @@ whole-blocks l p q =
     let m = eqb-true (length l % 512) 0 b.1 in
     omega arith
 
-pub counted-blocks : (l : List ℕ) {v : Verdict} → v ≡ judge_count l → v ≡ Good → 512 * (1 + text_blocks l + event_blocks l) ≤ length l
+pub counted-blocks : (l : List ℕ) {v : Verdict} → v ≡ judge_count l → v ≡ Ok tt → 512 * (1 + text_blocks l + event_blocks l) ≤ length l
 unfolding judge_count
 counted-blocks l p q =
     let e = eqb-true (length l / 512) (1 + text_blocks l + event_blocks l) (demanded (eqb (length l / 512) (1 + text_blocks l + event_blocks l)) (Broken 0) (sym p ∙ q)) in
@@ -93,14 +80,14 @@ counted-blocks l p q =
 
 pub record Sound (l : List ℕ) : Type 0 where
   pub whole : length l % 512 ≡ 0
-  pub header : judge_block (edition_in l) 0 header_kind header_used (take 512 l) ≡ Good
+  pub header : judge_block (edition_in l) 0 header_kind header_used (take 512 l) ≡ Ok tt
   pub text : text_length l ≤ most_text
   pub count : event_count l ≤ most_events
   pub blocks : length l / 512 ≡ 1 + text_blocks l + event_blocks l
-  pub texts : judge_text l ≡ Good
-  pub events : judge_events l ≡ Good
+  pub texts : judge_text l ≡ Ok tt
+  pub events : judge_events l ≡ Ok tt
 
-pub sound : (l : List ℕ) → judge_bundle l ≡ Good → Sound l
+pub sound : (l : List ℕ) → judge_bundle l ≡ Ok tt → Sound l
 unfolding judge_bundle judge_length judge_header judge_count
 sound l p =
     let a = both-good (judge_length l) (judge_header l before judge_count l before judge_text l before judge_events l) p in
@@ -149,13 +136,13 @@ record Taken (l : List ℕ) (t e : ℕ) : Type 0 where
   events : least_room ≤ e
   sound : Sound l
 
-taken : (l : List ℕ) (t e : ℕ) → judge_call l t e ≡ Good → Taken l t e
+taken : (l : List ℕ) (t e : ℕ) → judge_call l t e ≡ Ok tt → Taken l t e
 taken l t e p =
     let a = both-good (demand (leb least_room t && leb least_room e) Short) (judge_bundle l) p in
     let b = demanded-both (leb least_room t) (leb least_room e) Short a.0 in
     record { text = leb-true least_room t b.0; events = leb-true least_room e b.1; sound = sound l a.1 }
 
-module _ (l : List ℕ) (t e : ℕ) {v : Verdict} (p : v ≡ judge_call l t e) (q : v ≡ Good) where
+module _ (l : List ℕ) (t e : ℕ) {v : Verdict} (p : v ≡ judge_call l t e) (q : v ≡ Ok tt) where
   pub header-there : 512 ≤ length l
   header-there = let k = taken l t e (sym p ∙ q) in omega arith
 
@@ -195,15 +182,15 @@ module _ (l t e : List ℕ) {v : Verdict} (p : v ≡ judge_call l (length t) (le
   meaning : {w : Verdict} → v ≡ w → call_of l (length t) (length e) ≡ meant w l
   meaning q = call-meant l (length t) (length e) ∙ ap (λ (x : Verdict). meant x l) (sym p ∙ q)
 
-  pub read-bad : {u f : List ℕ} {r : Refusal} → v ≡ Bad r → u ≡ take 0 t ++ zeros (length t - 0) → f ≡ take 0 e ++ zeros (length e - 0) → HasRead l t e u f (Refused r)
+  pub read-bad : {u f : List ℕ} {r : Refusal} → v ≡ Err r → u ≡ take 0 t ++ zeros (length t - 0) → f ≡ take 0 e ++ zeros (length e - 0) → HasRead l t e u f (Err r)
   read-bad {r = r} q x y =
       let a : length t - 0 ≡ length t = omega arith in
       let b : length e - 0 ≡ length e = omega arith in
-      let z : Refused r ≡ answer_of (call_of l (length t) (length e)) = rw (meaning q) in
+      let z : ◌≡◌ {A = Answer} (Err r) (answer_of (call_of l (length t) (length e))) = rw (meaning q) in
       record { answer = z; numbers = answer-numbered (call_of l (length t) (length e)) z; text = rw (meaning q) (rw a at x); events = rw (meaning q) (rw b at y) }
 
-  pub read-good : {u f : List ℕ} {r : Answer} → v ≡ Good → u ≡ text_in l ++ zeros (length t - text_length l) → f ≡ events_in l ++ zeros (length e - event_length l)
-      → r ≡ Bundle (text_length l) (event_length l) (edition_in l) → HasRead l t e u f r
+  pub read-good : {u f : List ℕ} {r : Answer} → v ≡ Ok tt → u ≡ text_in l ++ zeros (length t - text_length l) → f ≡ events_in l ++ zeros (length e - event_length l)
+      → r ≡ Ok (record { text = text_length l; events = event_length l; edition = edition_in l }) → HasRead l t e u f r
   read-good {r = r} q x y z =
       let s = (taken l (length t) (length e) (sym p ∙ q)).sound in
       let k : r ≡ answer_of (call_of l (length t) (length e)) = rw (meaning q, length-text l s, length-events l s) z in

@@ -1,8 +1,5 @@
 -- The definitions run on bundles that a script packed by the rules (RULES R15) alone. Assumes nothing.
-use mathlib.Core.Path.{◌≡◌, refl}
-use mathlib.Core.List.{List, [], ◌∷◌, ◌++◌}
-use Prim.Native.Nat.{ℕ}
-use lib.ListN.{set, take}
+use Rattle.std.proofs.Common.{◌≡◌, refl, List, [], ◌∷◌, ◌++◌, ℕ, set, take}
 use Rattle.lent.specs.Fill.{zeros}
 use Rattle.bundle_block.specs.declared.Refusal.TheVariants.{Broken, BadCheck}
 use Rattle.bundle_block.specs.Block.{little, number, weighed, check_of, front_of, block_of, judge_check, judge_edition, judge_order, judge_block}

@@ -1,17 +1,8 @@
 -- Reading is the inverse of writing: what is written is read again, and what is read is what would be written. Assumes nothing.
-use mathlib.Core.Path.{◌≡◌, refl, sym, ap, ◌∙◌}
-use mathlib.Core.Bool.{true}
-use mathlib.Core.List.{List, [], ◌++◌, append_assoc, append-nil}
-use Prim.Native.Nat.{ℕ, ◌+◌, ◌*◌, ◌/◌}
-use native.Mathlib.Omega.{arith}
-use borrow.Author.Tests.{lt-ltb, le-leb, eq-eqb}
-use lib.ListN.{length, take, drop, length-append, length-take, length-drop}
-use lib.Seq.{take_all, take_at, drop_at, take-take, take-add, drop-drop}
+use Rattle.std.proofs.Common.{◌≡◌, refl, sym, ap, ◌∙◌, true, List, [], ◌++◌, append_assoc, append-nil, ℕ, ◌+◌, ◌*◌, ◌/◌, arith, lt-ltb, le-leb, eq-eqb, length, take, drop, length-append, length-take, length-drop, take_all, take_at, drop_at, take-take, take-add, drop-drop, Ok, Err}
 use Rattle.lent.specs.Bytes.{all}
 use Rattle.little.proofs.Laws.{number-little}
-use Rattle.bundle_block.specs.declared.Verdict.{Verdict}
-use Rattle.bundle_block.specs.declared.Verdict.TheVariants.{Good, Bad}
-use Rattle.bundle_block.specs.Block.{is_byte, little, front_of, block_of, edition_in, judge_block}
+use Rattle.bundle_block.specs.Block.{Verdict, is_byte, little, front_of, block_of, edition_in, judge_block}
 use Rattle.bundle_run.specs.Run.{run_of}
 use Rattle.bundle_read.specs.Bundle.{blocks_for, header_of, bundle_of, text_length, event_count, event_length, text_blocks, event_blocks, text_part, event_part, judge_length, judge_header, judge_count, judge_text, judge_events, judge_bundle, text_in, events_in, says, meant, read_of}
 use Rattle.bundle_read.specs.Sizes.{most_text, most_events, record_size, text_room, event_room, header_used, header_kind, text_kind, event_kind, Within}
@@ -22,7 +13,7 @@ use Rattle.bundle_block.proofs.Inverse.{length-block, written-good, word, good-w
 use Rattle.bundle_run.proofs.Inverse.{length_run, run-good, run-held, good-run, bytes-held}
 
 -- a sound bundle is judged good
-good : (l : List ℕ) → Sound l → judge_bundle l ≡ Good
+good : (l : List ℕ) → Sound l → judge_bundle l ≡ Ok tt
 unfolding judge_bundle judge_length judge_header judge_count
 good l s =
     let b = s.blocks in
@@ -111,20 +102,20 @@ module _ (text events : List ℕ) (edition : ℕ) where
           let b = length-texts in
           rw p (drop_at (head ++ texts) records (512 * (1 + blocks_for text_room (length text))) (rw length-append (omega arith)))
 
-      header-good : judge_block (edition_in l) 0 header_kind header_used (take 512 l) ≡ Good
+      header-good : judge_block (edition_in l) 0 header_kind header_used (take 512 l) ≡ Ok tt
       unfolding head little
       header-good =
           let bytes = all_append is_byte (little 4 (length text)) (little 4 (length events / record_size)) (bytes-little 4 (length text)) (bytes-little 4 (length events / record_size)) in
           rw (edition-read, head-there) (written-good edition 0 header_kind (header_of text events) (omega arith) w.edition-word (omega arith) (omega arith) bytes)
 
-      texts-good : judge_text l ≡ Good
+      texts-good : judge_text l ≡ Ok tt
       unfolding judge_text texts
       texts-good =
           let h = w.text-length in
           rw (edition-read, text-read, texts-there)
           (run-good edition text_kind text_room (omega arith) w.edition-word (omega arith) (blocks_for text_room (length text)) 1 text records (omega arith) w.text-bytes)
 
-      records-good : judge_events l ≡ Good
+      records-good : judge_events l ≡ Ok tt
       unfolding judge_events records
       records-good =
           let h = w.text-length in
@@ -235,9 +226,9 @@ unfolding read_of
 written_read l text events edition bytes p = by (judge_bundle l) refl p
   where
     by : (v : Verdict) → judge_bundle l ≡ v → meant v l ≡ says text events edition → (l ≡ bundle_of text events edition) × Within text events edition
-    by Good q r =
+    by (Ok o) q r =
         let t : text_in l ≡ text = cc in
         let e : events_in l ≡ events = cc in
         let n : edition_in l ≡ edition = cc in
         (bundle-again l bytes (sound l q) ∙ rw (t, e, n), rw (t, e, n) at (within l bytes (sound l q)))
-    by (Bad b) q r = let z : ◌≡◌ {A = ℕ} 0 1 = cc in absurd (omega arith)
+    by (Err b) q r = let z : ◌≡◌ {A = ℕ} 0 1 = cc in absurd (omega arith)

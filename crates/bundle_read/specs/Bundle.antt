@@ -1,10 +1,8 @@
 -- The note bundle (RULES R15): a header block, then text blocks, then event blocks, none more than needed; written, judged and read. Assumes nothing.
-use Rattle.std.specs.Prelude.{◌&&◌, List, ◌++◌, ℕ, ◌+◌, ◌-◌, ◌*◌, ◌/◌, ◌%◌, eqb, leb, ltb, length, take, drop}
+use Rattle.std.specs.Prelude.{◌&&◌, List, ◌++◌, ℕ, ◌+◌, ◌-◌, ◌*◌, ◌/◌, ◌%◌, eqb, leb, ltb, length, take, drop, Ok, Err}
 use Rattle.bundle_block.specs.declared.Refusal.{Refusal}
 use Rattle.bundle_block.specs.declared.Refusal.TheVariants.{Broken}
-use Rattle.bundle_block.specs.declared.Verdict.{Verdict}
-use Rattle.bundle_block.specs.declared.Verdict.TheVariants.{Good, Bad}
-use Rattle.bundle_block.specs.Block.{little, block_of, field, edition_in, ◌before◌, demand, judge_block}
+use Rattle.bundle_block.specs.Block.{Verdict, little, block_of, field, edition_in, ◌before◌, demand, judge_block}
 use Rattle.bundle_run.specs.Run.{run_of, judge_run, held_in}
 use Rattle.bundle_read.specs.Sizes.{most_text, most_events, record_size, text_room, event_room, header_used, header_kind, text_kind, event_kind}
 
@@ -90,8 +88,8 @@ pub data Meaning : Type 0 where
 
 -- a bundle with this verdict
 abbrev pub meant : Verdict → List ℕ → Meaning
-meant Good bundle = says (text_in bundle) (events_in bundle) (edition_in bundle)
-meant (Bad r) bundle = refused r
+meant (Ok o) bundle = says (text_in bundle) (events_in bundle) (edition_in bundle)
+meant (Err r) bundle = refused r
 
 -- what the reader makes of a bundle, the buffers apart
 unfoldable pub read_of : List ℕ → Meaning

@@ -1,12 +1,10 @@
 -- The call that reads a bundle: its answer, the answer's numbers, and every byte of the two buffers afterwards. Assumes nothing.
-use Rattle.std.specs.Prelude.{◌≡◌, ◌&&◌, List, ◌++◌, ℕ, ◌-◌, leb, length, if◌then◌else◌}
+use Rattle.std.specs.Prelude.{◌≡◌, ◌&&◌, List, ◌++◌, ℕ, ◌-◌, leb, length, Result, Ok, Err, if◌then◌else◌}
 use Rattle.lent.specs.Fill.{zeros}
 use Rattle.bundle_block.specs.declared.Refusal.{Refusal}
 use Rattle.bundle_block.specs.declared.Refusal.TheVariants.{Short, Broken, BadCheck, OtherEdition}
-use Rattle.bundle_read.specs.declared.Answer.{Answer}
-use Rattle.bundle_read.specs.declared.Answer.TheVariants.{Bundle, Refused}
-use Rattle.bundle_block.specs.declared.Verdict.{Verdict}
-use Rattle.bundle_block.specs.Block.{◌before◌, demand}
+use Rattle.bundle_read.specs.declared.Contents.{Contents}
+use Rattle.bundle_block.specs.Block.{Verdict, ◌before◌, demand}
 use Rattle.bundle_read.specs.Bundle.{judge_bundle, Meaning, says, refused, read_of}
 use Rattle.bundle_read.specs.Sizes.{least_room}
 
@@ -23,24 +21,28 @@ refusal_place (Broken block) = block
 refusal_place (BadCheck block) = block
 refusal_place (OtherEdition block) = block
 
+-- the lengths and the edition, or why the bundle is refused
+abbrev pub Answer : Type 0
+Answer = Result Contents Refusal
+
 -- the number: 0 for an answer, else the refusal's
 abbrev pub number_of : Answer → ℕ
-number_of (Bundle text events edition) = 0
-number_of (Refused r) = refusal_number r
+number_of (Ok c) = 0
+number_of (Err r) = refusal_number r
 
 -- the text's length, or the refusal's place
 abbrev pub value_of : Answer → ℕ
-value_of (Bundle text events edition) = text
-value_of (Refused r) = refusal_place r
+value_of (Ok c) = c.text
+value_of (Err r) = refusal_place r
 
 -- the events' length in bytes, and the edition
 abbrev pub events_of : Answer → ℕ
-events_of (Bundle text events edition) = events
-events_of (Refused r) = 0
+events_of (Ok c) = c.events
+events_of (Err r) = 0
 
 abbrev pub edition_of : Answer → ℕ
-edition_of (Bundle text events edition) = edition
-edition_of (Refused r) = 0
+edition_of (Ok c) = c.edition
+edition_of (Err r) = 0
 
 -- refusal 1 comes before all others
 unfoldable pub call_of : List ℕ → (text_buffer event_buffer : ℕ) → Meaning
@@ -48,8 +50,8 @@ call_of bundle text_buffer event_buffer = if leb least_room text_buffer && leb l
 
 -- the answer says the lengths, in bytes
 abbrev pub answer_of : Meaning → Answer
-answer_of (says text events edition) = Bundle (length text) (length events) edition
-answer_of (refused r) = Refused r
+answer_of (says text events edition) = Ok (record { text = length text; events = length events; edition = edition })
+answer_of (refused r) = Err r
 
 -- what the buffers hold then: the text and the events with zeros behind, or zeros alone
 abbrev pub text_bytes : Meaning → (buffer : ℕ) → List ℕ

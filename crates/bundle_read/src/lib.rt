@@ -6,9 +6,9 @@ ghost use Rattle.lent.specs.Fill.{zeros};
 ghost use Rattle.bundle_block.specs.Block.{◌before◌, edition_in};
 ghost use Rattle.bundle_read.specs.Bundle.{blocks_for, text_length, event_count, event_length, text_blocks, event_blocks, text_in, events_in};
 ghost use Rattle.bundle_read.specs.Bundle.{judge_length, judge_header, judge_count, judge_text, judge_events, judge_bundle};
-ghost use Rattle.bundle_read.specs.Read.{number_of, value_of, events_of, edition_of, judge_call, HasRead};
+ghost use Rattle.bundle_read.specs.Read.{number_of, value_of, events_of, edition_of, refusal_number, refusal_place, judge_call, HasRead};
 
-use bundle_block::{Refusal, Verdict};
+use bundle_block::Refusal;
 use bundle_run::BLOCK;
 use event::Event;
 
@@ -32,133 +32,114 @@ pub const TEXT_KIND: u8 = 2;
 
 pub const EVENT_KIND: u8 = 3;
 
-// What a bundle holds, in bytes, and its edition; or why it is refused.
+// What a bundle holds, in bytes, and its edition.
 #[derive(Clone, Copy)]
-pub enum Answer {
-    Bundle {
-        text: usize,
-        events: usize,
-        edition: u32,
-    },
-    Refused(Refusal),
+pub struct Contents {
+    pub text: usize,
+    pub events: usize,
+    pub edition: u32,
 }
 
 // Reads the text and the events of a bundle into two buffers.
-pub fn read(bundle: &[u8], text: &mut [u8], events: &mut [u8]) -> Answer
+pub fn read(bundle: &[u8], text: &mut [u8], events: &mut [u8]) -> Result<Contents, Refusal>
     ensures { HasRead bundle.now text.old events.old text.new events.new result }
 {
     match judge_call(bundle, text.len(), events.len()) {
-        Verdict::Bad(r) => {
+        Err(r) => {
             lent::clear(text, 0);
             lent::clear(events, 0);
-            Answer::Refused(r)
+            Err(r)
         }
-        Verdict::Good => {
+        Ok(()) => {
             fill_text(bundle, text);
             fill_events(bundle, events);
-            header(bundle)
+            Ok(header(bundle))
         }
     }
 }
 
 // An answer's number (RULES R7.1).
-pub fn number(a: Answer) -> u32
+pub fn number(a: Result<Contents, Refusal>) -> u32
     ensures { result ≡ number_of a }
 {
     match a {
-        Answer::Bundle {
-            text: _,
-            events: _,
-            edition: _,
-        } => 0,
-        Answer::Refused(r) => match r {
-            Refusal::Short => 1,
-            Refusal::Broken(_) => 10,
-            Refusal::BadCheck(_) => 11,
-            Refusal::OtherEdition(_) => 12,
-        },
+        Ok(_) => 0,
+        Err(r) => refusal_number(r),
     }
 }
 
 // The text's length, or the refusal's place.
-pub fn value(a: Answer) -> usize
+pub fn value(a: Result<Contents, Refusal>) -> usize
     ensures { result ≡ value_of a }
 {
     match a {
-        Answer::Bundle {
-            text,
-            events: _,
-            edition: _,
-        } => text,
-        Answer::Refused(r) => match r {
-            Refusal::Short => 0,
-            Refusal::Broken(block) => block,
-            Refusal::BadCheck(block) => block,
-            Refusal::OtherEdition(block) => block,
-        },
+        Ok(contents) => contents.text,
+        Err(r) => refusal_place(r),
     }
 }
 
 // The events' length in bytes.
-pub fn events_length(a: Answer) -> usize
+pub fn events_length(a: Result<Contents, Refusal>) -> usize
     ensures { result ≡ events_of a }
 {
     match a {
-        Answer::Bundle {
-            text: _,
-            events,
-            edition: _,
-        } => events,
-        Answer::Refused(_) => 0,
+        Ok(contents) => contents.events,
+        Err(_) => 0,
     }
 }
 
-pub fn edition(a: Answer) -> u32
+pub fn edition(a: Result<Contents, Refusal>) -> u32
     ensures { result ≡ edition_of a }
 {
     match a {
-        Answer::Bundle {
-            text: _,
-            events: _,
-            edition,
-        } => edition,
-        Answer::Refused(_) => 0,
+        Ok(contents) => contents.edition,
+        Err(_) => 0,
+    }
+}
+
+// A refusal's number (RULES R7.1).
+pub fn refusal_number(r: Refusal) -> u32
+    ensures { result ≡ refusal_number r }
+{
+    match r {
+        Refusal::Short => 1,
+        Refusal::Broken(_) => 10,
+        Refusal::BadCheck(_) => 11,
+        Refusal::OtherEdition(_) => 12,
+    }
+}
+
+// The block at fault.
+pub fn refusal_place(r: Refusal) -> usize
+    ensures { result ≡ refusal_place r }
+{
+    match r {
+        Refusal::Short => 0,
+        Refusal::Broken(block) | Refusal::BadCheck(block) | Refusal::OtherEdition(block) => block,
     }
 }
 
 // Refusal 1, then the others.
-fn judge_call(bundle: &[u8], text: usize, events: usize) -> Verdict
+fn judge_call(bundle: &[u8], text: usize, events: usize) -> Result<(), Refusal>
     ensures { result ≡ judge_call bundle.now text events }
 {
-    let rooms = bundle_block::demand(
+    bundle_block::demand(
         (LEAST_ROOM <= text) & (LEAST_ROOM <= events),
         Refusal::Short,
-    );
-    let Verdict::Good = rooms else {
-        return rooms;
-    };
+    )?;
     judge_bundle(bundle)
 }
 
-fn judge_bundle(bundle: &[u8]) -> Verdict
+fn judge_bundle(bundle: &[u8]) -> Result<(), Refusal>
     ensures { result ≡ judge_bundle bundle.now }
 {
-    let length = judge_length(bundle);
-    let Verdict::Good = length else {
-        return length;
-    };
-    let header = judge_header(bundle);
-    let Verdict::Good = header else {
-        return header;
-    };
-    let count = judge_count(bundle);
-    let Verdict::Good = count else {
-        return count;
-    };
+    judge_length(bundle)?;
+    judge_header(bundle)?;
+    judge_count(bundle)?;
     judge_runs(bundle)
 }
 
-fn judge_length(bundle: &[u8]) -> Verdict
+fn judge_length(bundle: &[u8]) -> Result<(), Refusal>
     ensures { result ≡ judge_length bundle.now }
 {
     bundle_block::demand(
@@ -167,7 +148,7 @@ fn judge_length(bundle: &[u8]) -> Verdict
     )
 }
 
-pub fn judge_header(bundle: &[u8]) -> Verdict
+pub fn judge_header(bundle: &[u8]) -> Result<(), Refusal>
     requires { 512 ≤ length bundle.now }
     ensures { result ≡ judge_header bundle.now }
 {
@@ -179,10 +160,10 @@ pub fn judge_header(bundle: &[u8]) -> Verdict
         HEADER_USED,
     );
     let small = (text_length(bundle) <= MOST_TEXT) & (event_count(bundle) <= MOST_EVENTS);
-    bundle_block::first(block, bundle_block::demand(small, Refusal::Broken(0)))
+    block.and(bundle_block::demand(small, Refusal::Broken(0)))
 }
 
-fn judge_count(bundle: &[u8]) -> Verdict
+fn judge_count(bundle: &[u8]) -> Result<(), Refusal>
     requires { 512 ≤ length bundle.now }
     ensures { result ≡ judge_count bundle.now }
 {
@@ -192,18 +173,16 @@ fn judge_count(bundle: &[u8]) -> Verdict
 }
 
 // The blocks behind the header.
-fn judge_runs(bundle: &[u8]) -> Verdict
+fn judge_runs(bundle: &[u8]) -> Result<(), Refusal>
     requires { 512 * (1 + text_blocks bundle.now + event_blocks bundle.now) ≤ length bundle.now }
     ensures { result ≡ (judge_text bundle.now before judge_events bundle.now) }
 {
-    let texts = judge_text(bundle);
-    let Verdict::Good = texts else {
-        return texts;
-    };
+    judge_text(bundle)?;
     judge_events(bundle)
 }
 
-fn judge_text(bundle: &[u8]) -> Verdict
+// Beside `judge_events`: each is one call, and nothing but its arguments would be shared.
+fn judge_text(bundle: &[u8]) -> Result<(), Refusal>
     requires { 512 * (1 + text_blocks bundle.now) ≤ length bundle.now }
     ensures { result ≡ judge_text bundle.now }
 {
@@ -219,7 +198,7 @@ fn judge_text(bundle: &[u8]) -> Verdict
     )
 }
 
-fn judge_events(bundle: &[u8]) -> Verdict
+fn judge_events(bundle: &[u8]) -> Result<(), Refusal>
     requires { 512 * (1 + text_blocks bundle.now + event_blocks bundle.now) ≤ length bundle.now }
     ensures { result ≡ judge_events bundle.now }
 {
@@ -265,11 +244,11 @@ fn fill_events(bundle: &[u8], events: &mut [u8])
 }
 
 // What the header says.
-fn header(bundle: &[u8]) -> Answer
+fn header(bundle: &[u8]) -> Contents
     requires { 512 ≤ length bundle.now }
-    ensures { result ≡ Answer.Bundle (text_length bundle.now) (event_length bundle.now) (edition_in bundle.now) }
+    ensures { result ≡ record { text = text_length bundle.now; events = event_length bundle.now; edition = edition_in bundle.now } }
 {
-    Answer::Bundle {
+    Contents {
         text: text_length(bundle),
         events: event_length(bundle),
         edition: little::u32_at(bundle, 0),

@@ -1,15 +1,8 @@
 -- A run that was written is judged good and holds what was given; a run that is judged good is the one that would be written. Assumes nothing.
-use mathlib.Core.Path.{◌≡◌, refl, ap, ◌∙◌}
-use mathlib.Core.Bool.{true}
-use mathlib.Core.List.{List, [], ◌∷◌, ◌++◌, append_assoc, append-nil}
-use Prim.Native.Nat.{ℕ, zero, suc, ◌+◌, ◌-◌, ◌*◌, ◌^◌, ◌≤◌, ◌<◌, min}
-use native.Mathlib.Decide.{dec_le}
-use native.Mathlib.Nat.{mul-zero, mul-suc}
-use native.Mathlib.Omega.{arith}
-use lib.ListN.{length, take, drop, length-append, length-take, length-drop, take-append-drop, drop_of_length-le}
-use lib.Seq.{take_all, take_at, drop_at, take-take, take-add, take-append-le, drop-append-le}
+use Rattle.std.proofs.Common.{◌≡◌, refl, ap, ◌∙◌, true, List, [], ◌∷◌, ◌++◌, append_assoc, append-nil, ℕ, zero, suc, ◌+◌, ◌-◌, ◌*◌, ◌^◌, ◌≤◌, ◌<◌, min, mul-zero, mul-suc, arith, length, take, drop, length-append, length-take, length-drop, take-append-drop, drop_of_length-le, take_all, take_at, drop_at, take-take, take-add, Ok}
+use Rattle.std.proofs.Math.Decide.{dec_le}
+use Rattle.std.proofs.Math.Seq.{take-append-le, drop-append-le}
 use Rattle.lent.specs.Bytes.{all}
-use Rattle.bundle_block.specs.declared.Verdict.TheVariants.{Good}
 use Rattle.bundle_block.specs.Block.{is_byte, block_of, judge_block}
 use Rattle.bundle_run.specs.Run.{run_of, judge_run, held_in}
 use Rattle.bundle_block.proofs.Block.{drop-take, both-good}
@@ -51,7 +44,7 @@ module _ (edition kind room : ℕ) (r : room ≤ 500) where
     drop-one = rw split (drop_at one more 512 (length-block edition block kind (take room given) (short given)))
 
   pub run-good : edition < 256 ^ 4 → kind < 256 ^ 1 → (n block : ℕ) (given rest : List ℕ) → block + n ≤ 65536 → all is_byte given ≡ true
-      → judge_run edition kind room block n (length given) (run_of edition kind room block n given ++ rest) ≡ Good
+      → judge_run edition kind room block n (length given) (run_of edition kind room block n given ++ rest) ≡ Ok tt
   unfolding judge_run one more
   run-good e k zero block given rest h p = refl
   run-good e k (suc n) block given rest h p =
@@ -125,7 +118,7 @@ module _ (edition kind room : ℕ) (r : room ≤ 500) where
           | no i ↦ let z : others ≡ [] = nothing others (omega arith) in let k : length first ≤ room = omega arith in rw (z, append-nil) (drop_of_length-le first k)
         ]
 
-  pub good-run : (n block used : ℕ) (l : List ℕ) → all is_byte l ≡ true → used ≤ room * n → 512 * n ≤ length l → judge_run edition kind room block n used l ≡ Good
+  pub good-run : (n block used : ℕ) (l : List ℕ) → all is_byte l ≡ true → used ≤ room * n → 512 * n ≤ length l → judge_run edition kind room block n used l ≡ Ok tt
       → take (512 * n) l ≡ run_of edition kind room block n (held_in room n used l)
   unfolding judge_run held_in run_of first others
   good-run zero block used l b h long p = refl

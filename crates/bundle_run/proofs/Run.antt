@@ -1,47 +1,48 @@
 -- What the code goes by on a run of blocks: the verdict on it, and what it holds, block by block. Assumes nothing.
-use mathlib.Core.Path.{◌≡◌, ap, ◌∙◌}
-use mathlib.Core.List.{List, ◌++◌}
-use Prim.Native.Nat.{ℕ, zero, suc, ◌+◌, ◌-◌, ◌*◌, ◌≤◌, ◌<◌, min}
-use native.Mathlib.Nat.{zero-add, mul-zero, mul-suc, sub-zero}
-use native.Mathlib.Omega.{arith}
-use lib.ListN.{length, take, drop, length-append, length-take, length-drop}
-use lib.Seq.{drop-drop}
+use Rattle.std.proofs.Common.{◌≡◌, ap, ◌∙◌, List, ◌++◌, ℕ, zero, suc, ◌+◌, ◌-◌, ◌*◌, ◌≤◌, ◌<◌, min, zero-add, mul-zero, mul-suc, arith, length, take, drop, length-append, length-take, length-drop, drop-drop, Ok, Err}
+use Rattle.std.proofs.Math.Nat.{sub-zero}
 use Rattle.lent.specs.Fill.{zeros, Filled}
-use Rattle.lent.proofs.Laws.{Left, all, step, done, length-filled, take-fill}
+use Rattle.lent.specs.declared.Writer.{Writer}
+use Rattle.lent.specs.Writer.{Writes}
+use Rattle.lent.proofs.Laws.{length-filled, take-fill}
+use Rattle.lent.proofs.Writing.{Due, all, step, done}
 use Rattle.bundle_block.specs.declared.Refusal.{Refusal}
-use Rattle.bundle_block.specs.declared.Verdict.{Verdict}
-use Rattle.bundle_block.specs.declared.Verdict.TheVariants.{Good, Bad}
-use Rattle.bundle_block.specs.Block.{◌before◌, judge_block}
+use Rattle.bundle_block.specs.Block.{Verdict, ◌before◌, judge_block}
 use Rattle.bundle_run.specs.Run.{judge_run, held_in}
 
 -- ---- the verdict
 
-module _ (edition kind room index end left at : ℕ) {here : ℕ} {v total : Verdict} (l : List ℕ) (h : index < end) (m : here ≡ min room left)
-    (j : v ≡ judge_block edition index kind here (take (at + 512 - at) (drop at l))) (p : judge_run edition kind room index (end - index) left (drop at l) ≡ total) where
-  run_step : (v before judge_run edition kind room (index + 1) (end - (index + 1)) (left - here) (drop (at + 512) l)) ≡ total
+module _ (edition kind room start index end left : ℕ) {here : ℕ} {v total : Verdict} (l : List ℕ) (k : start ≤ index) (h : index < end) (m : here ≡ min room left)
+    (j : v ≡ judge_block edition index kind here (take (512 * (index - start) + 512 - 512 * (index - start)) (drop (512 * (index - start)) l)))
+    (p : judge_run edition kind room index (end - index) left (drop (512 * (index - start)) l) ≡ total) where
+  run_step : (v before judge_run edition kind room (index + 1) (end - (index + 1)) (left - here) (drop (512 * (index + 1 - start)) l)) ≡ total
   unfolding judge_run
   run_step =
       let n : end - index ≡ suc (end - (index + 1)) = omega arith in
-      let s : at + 512 - at ≡ 512 = omega arith in
+      let s : 512 * (index - start) + 512 - 512 * (index - start) ≡ 512 = omega arith in
       let g : left - room ≡ left - here = omega arith in
-      let q = rw (n, g, ← m, drop-drop 512 at l) at p in
-      rw (j, s) q
+      let t : 512 * (index + 1 - start) ≡ 512 * (index - start) + 512 = omega arith in
+      let q = rw (n, g, ← m, drop-drop 512 (512 * (index - start)) l) at p in
+      rw (j, s, t) q
 
-  pub run-bad : {r : Refusal} → v ≡ Bad r → v ≡ total
-  run-bad q = q ∙ (rw q at run_step)
+  pub run-bad : {r : Refusal} → v ≡ Err r → Err r ≡ total
+  run-bad q = rw q at run_step
 
-  pub run-good : v ≡ Good → judge_run edition kind room (index + 1) (end - (index + 1)) (left - here) (drop (at + 512) l) ≡ total
+  pub run-good : v ≡ Ok tt → judge_run edition kind room (index + 1) (end - (index + 1)) (left - here) (drop (512 * (index + 1 - start)) l) ≡ total
   run-good q = rw q at run_step
 
-pub run_end : (edition kind room index end left : ℕ) (l : List ℕ) {total : Verdict} → end ≤ index → judge_run edition kind room index (end - index) left l ≡ total → Good ≡ total
+pub run_all : (edition kind room start n left : ℕ) (l : List ℕ) → judge_run edition kind room start n left (drop (512 * (start - start)) l) ≡ judge_run edition kind room start n left l
+run_all edition kind room start n left l = let z : start - start ≡ 0 = omega arith in rw z
+
+pub run_end : (edition kind room index end left : ℕ) (l : List ℕ) {total : Verdict} → end ≤ index → judge_run edition kind room index (end - index) left l ≡ total → Ok tt ≡ total
 unfolding judge_run
 run_end edition kind room index end left l h p = let n : end - index ≡ 0 = omega arith in rw n at p
 
 -- ---- what it holds
 
-module _ (room count left i : ℕ) {here : ℕ} {d₀ d e : List ℕ} {at₀ at m : ℕ} {s₀ : List ℕ} (l : List ℕ) (h : i < count) (k : here ≡ min room left)
-    (p : Left d₀ at₀ s₀ d at (held_in room (count - i) left (drop (512 * i) l))) (q : Filled d at (take (512 * i + 8 + here - (512 * i + 8)) (drop (512 * i + 8) l)) e m) where
-  pub held-step : Left d₀ at₀ s₀ e m (held_in room (count - (i + 1)) (left - here) (drop (512 * (i + 1)) l))
+module _ (room count left i : ℕ) {here : ℕ} {u v w : Writer} {s₀ : List ℕ} (l : List ℕ) (h : i < count) (k : here ≡ min room left)
+    (p : Due s₀ u (held_in room (count - i) left (drop (512 * i) l)) v) (q : Writes (take (512 * i + 8 + here - (512 * i + 8)) (drop (512 * i + 8) l)) v w) where
+  pub held-step : Due s₀ u (held_in room (count - (i + 1)) (left - here) (drop (512 * (i + 1)) l)) w
   unfolding held_in
   held-step =
       let n : count - i ≡ suc (count - (i + 1)) = omega arith in
@@ -50,10 +51,10 @@ module _ (room count left i : ℕ) {here : ℕ} {d₀ d e : List ℕ} {at₀ at 
       let t : 512 * (i + 1) ≡ 512 * i + 512 = omega arith in
       step (rw (n, g, ← k, drop-drop 8 (512 * i) l, drop-drop 512 (512 * i) l, s, t)) p q
 
-pub held_none : (room count used at : ℕ) (d l : List ℕ) → Left d at (held_in room count used l) d at (held_in room (count - 0) used (drop (512 * 0) l))
-held_none room count used at d l = rw sub-zero all
+pub held_none : (room count used : ℕ) (l : List ℕ) (v : Writer) → Due (held_in room count used l) v (held_in room (count - 0) used (drop (512 * 0) l)) v
+held_none room count used l v = rw sub-zero all
 
-pub held-end : (room count left i : ℕ) {d₀ d : List ℕ} {at₀ at : ℕ} {s₀ : List ℕ} (l : List ℕ) → count ≤ i → Left d₀ at₀ s₀ d at (held_in room (count - i) left l) → Filled d₀ at₀ s₀ d at
+pub held-end : (room count left i : ℕ) {u v : Writer} {s₀ : List ℕ} (l : List ℕ) → count ≤ i → Due s₀ u (held_in room (count - i) left l) v → Writes s₀ u v
 unfolding held_in
 held-end room count left i l h p = let n : count - i ≡ 0 = omega arith in done (rw n) p
 

@@ -1,19 +1,13 @@
 -- A run of blocks in two parts, and a run at the front of more bytes. Assumes nothing.
-use mathlib.Core.Path.{◌≡◌, refl}
-use mathlib.Core.List.{List, ◌++◌, append_assoc}
-use Prim.Native.Nat.{ℕ, zero, suc, ◌+◌, ◌-◌, ◌*◌, ◌≤◌, min}
-use native.Mathlib.Nat.{zero-add, suc-add, mul-zero, mul-suc, sub-zero}
-use native.Mathlib.Omega.{arith}
-use lib.ListN.{length, take, drop, length-append, length-take, length-drop}
-use lib.Seq.{drop-drop, take-append-le, drop-append-le}
-use Rattle.bundle_block.specs.declared.Verdict.{Verdict}
-use Rattle.bundle_block.specs.declared.Verdict.TheVariants.{Good, Bad}
-use Rattle.bundle_block.specs.Block.{◌before◌, judge_block}
+use Rattle.std.proofs.Common.{◌≡◌, refl, List, ◌++◌, append_assoc, ℕ, zero, suc, ◌+◌, ◌-◌, ◌*◌, ◌≤◌, min, zero-add, suc-add, mul-zero, mul-suc, arith, length, take, drop, length-append, length-take, length-drop, drop-drop, Ok, Err}
+use Rattle.std.proofs.Math.Nat.{sub-zero}
+use Rattle.std.proofs.Math.Seq.{take-append-le, drop-append-le}
+use Rattle.bundle_block.specs.Block.{Verdict, ◌before◌, judge_block}
 use Rattle.bundle_run.specs.Run.{judge_run, held_in}
 
 pub before-assoc : (u v w : Verdict) → ((u before v) before w) ≡ (u before v before w)
-before-assoc Good v w = refl
-before-assoc (Bad r) v w = refl
+before-assoc (Ok o) v w = refl
+before-assoc (Err r) v w = refl
 
 -- ---- in two parts
 

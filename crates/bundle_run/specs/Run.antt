@@ -1,8 +1,6 @@
 -- A run of blocks (RULES R15.3): of one kind, numbered one by one, none with more than its room; written, judged and read. Assumes nothing.
-use Rattle.std.specs.Prelude.{List, [], ◌++◌, ℕ, zero, suc, ◌+◌, ◌-◌, min, take, drop}
-use Rattle.bundle_block.specs.declared.Verdict.{Verdict}
-use Rattle.bundle_block.specs.declared.Verdict.TheVariants.{Good}
-use Rattle.bundle_block.specs.Block.{block_of, ◌before◌, judge_block}
+use Rattle.std.specs.Prelude.{List, [], ◌++◌, ℕ, zero, suc, ◌+◌, ◌-◌, min, take, drop, Ok}
+use Rattle.bundle_block.specs.Block.{block_of, Verdict, ◌before◌, judge_block}
 
 -- a run of so many blocks of one kind, numbered from block on, each with up to room bytes of what is given
 unfoldable pub run_of : (edition kind room block : ℕ) → ℕ → List ℕ → List ℕ
@@ -11,7 +9,7 @@ run_of edition kind room block (suc n) given = block_of edition block kind (take
 
 -- the verdict on a run of so many blocks, in which so many bytes are used
 unfoldable pub judge_run : (edition kind room block : ℕ) → ℕ → (used : ℕ) → List ℕ → Verdict
-judge_run edition kind room block zero used blocks = Good
+judge_run edition kind room block zero used blocks = Ok tt
 judge_run edition kind room block (suc n) used blocks =
     judge_block edition block kind (min room used) (take 512 blocks)
     before judge_run edition kind room (block + 1) n (used - room) (drop 512 blocks)

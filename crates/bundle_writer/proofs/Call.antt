@@ -1,21 +1,15 @@
 -- The call: what it answers and leaves in each case, and that two results that meet the contract are equal. Assumes nothing.
-use mathlib.Core.Path.{◌≡◌, refl, sym, ap, ◌∙◌}
-use mathlib.Core.Bool.{Bool, true, false, not, ◌&&◌}
-use mathlib.Core.List.{List, ◌++◌}
-use Prim.Native.Nat.{ℕ, ◌+◌, ◌-◌, ◌*◌, ◌%◌, ◌≤◌, ◌<◌}
-use native.Mathlib.Omega.{arith}
-use borrow.Author.Tests.{leb-true, eqb-true, lt-ltb, le-ltb}
-use lib.Dec.{eqb, leb}
-use lib.ListN.{length, take}
+use Rattle.std.proofs.Common.{Ok, Err, ◌≡◌, refl, sym, ap, ◌∙◌, Bool, true, false, not, ◌&&◌, List, ◌++◌, ℕ, ◌+◌, ◌-◌, ◌*◌, ◌%◌, ◌≤◌, ◌<◌, arith, leb-true, eqb-true, lt-ltb, le-ltb, eqb, leb, length, take}
 use Rattle.lent.specs.Fill.{fill, zeros}
-use Rattle.lent.proofs.Laws.{length-fill}
+use Rattle.lent.specs.declared.Writer.{Writer}
+use Rattle.lent.specs.Writer.{Writes, Clears}
+use Rattle.lent.proofs.Writing.{length-written}
 use Rattle.bundle_block.proofs.Block.{both_true}
 use Rattle.bundle_read.specs.Bundle.{blocks_for, bundle_of}
 use Rattle.bundle_read.specs.Sizes.{most_text, most_events, record_size, text_room, event_room}
 use Rattle.bundle_read.proofs.Inverse.{length-bundle}
-use Rattle.bundle_writer.specs.declared.Packed.{Packed}
-use Rattle.bundle_writer.specs.declared.Packed.TheVariants.{Length, WrongLength, NoRoom}
-use Rattle.bundle_writer.specs.Packed.{right_lengths, choose, HasPacked}
+use Rattle.bundle_writer.specs.Packed.{Packed, right_lengths, choose, HasPacked}
+use Rattle.bundle_writer.specs.declared.WriteRefusal.TheVariants.{WrongLength, NoRoom}
 use Rattle.bundle_writer.proofs.Parts.{take-filled}
 
 -- two results that meet the contract are equal
@@ -55,13 +49,13 @@ module _ (text events : ℕ) {x : Bool} (p : x ≡ right_lengths text events) (q
 pub cleared : (d : List ℕ) {e : List ℕ} → e ≡ take 0 d ++ zeros (length d - 0) → e ≡ zeros (length d)
 cleared d p = let z : length d - 0 ≡ length d = omega arith in rw z at p
 
-module _ (text events : List ℕ) (edition : ℕ) (d : List ℕ) {x : Bool} {e : List ℕ} (p : x ≡ right_lengths (length text) (length events)) where
-  pub lengths-wrong : {r : Packed} → not x ≡ true → r ≡ WrongLength → e ≡ zeros (length d) → HasPacked text events edition d e r
+module _ (text events : List ℕ) (edition : ℕ) (d : List ℕ) {x : Bool} (p : x ≡ right_lengths (length text) (length events)) where
+  pub lengths-wrong : {e : List ℕ} {r : Packed} → not x ≡ true → r ≡ Err WrongLength → e ≡ zeros (length d) → HasPacked text events edition d e r
   unfolding choose
   lengths-wrong q r s = let w = sym p ∙ refused x q in record { answer = rw w r; number = rw (w, r); value = rw (w, r); bytes = rw w s }
 
   module _ {n : ℕ} (q : not x ≡ false) (k : n ≡ 512 * (1 + blocks_for text_room (length text) + blocks_for event_room (length events))) where
-    pub room-lacks : {r : Packed} → length d < n → r ≡ NoRoom → e ≡ zeros (length d) → HasPacked text events edition d e r
+    pub room-lacks : {e : List ℕ} {r : Packed} → length d < n → r ≡ Err NoRoom → e ≡ zeros (length d) → HasPacked text events edition d e r
     unfolding choose
     room-lacks h r s =
         let l = length-bundle text events edition in
@@ -69,12 +63,15 @@ module _ (text events : List ℕ) (edition : ℕ) (d : List ℕ) {x : Bool} {e :
         let v = lt-ltb (length d) (length (bundle_of text events edition)) (omega arith) in
         record { answer = rw (w, v) r; number = rw (w, v, r); value = rw (w, v, r); bytes = rw (w, v) s }
 
-    pub bundle-packed : {f : List ℕ} → n ≤ length d → e ≡ fill d 0 (bundle_of text events edition) → f ≡ take n e ++ zeros (length e - n) → HasPacked text events edition d f (Length n)
+    pub bundle-packed : {u v w : Writer} → n ≤ length d → u.at ≡ 0 → u.bytes.now ≡ d → Writes (bundle_of text events edition) u v → Clears v w → HasPacked text events edition d w.bytes.now (Ok n)
     unfolding choose
-    bundle-packed h r s =
+    bundle-packed {u} {v} {w} h z o r s =
+        let b = bundle_of text events edition in
         let l = k ∙ sym (length-bundle text events edition) in
-        let w = sym p ∙ taken x q in
-        let v = le-ltb (length d) (length (bundle_of text events edition)) (omega arith) in
-        let a : length e ≡ length d = ap length r ∙ length-fill d 0 (bundle_of text events edition) in
-        let b : take (length (bundle_of text events edition)) e ≡ bundle_of text events edition = rw r (take-filled d (bundle_of text events edition) (omega arith)) in
-        record { answer = rw (w, v, l); number = rw (w, v); value = rw (w, v) l; bytes = rw (w, v) (s ∙ rw (l, a, b)) }
+        let m = sym p ∙ taken x q in
+        let g = le-ltb (length d) (length b) (omega arith) in
+        let a : length v.bytes.now ≡ length d = length-written r ∙ ap length o in
+        let c : v.bytes.now ≡ fill d 0 b = rw (z, o) at r.filled.bytes in
+        let e : v.at ≡ length b = (let y = r.filled.place in let t : length u.bytes.now ≡ length d = ap length o in omega arith) in
+        let t : take (length b) v.bytes.now ≡ b = rw c (take-filled d b (omega arith)) in
+        record { answer = rw (m, g, l); number = rw (m, g); value = rw (m, g) l; bytes = rw (m, g) (s.bytes ∙ rw (e, a, t)) }

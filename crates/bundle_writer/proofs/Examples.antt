@@ -1,23 +1,19 @@
 -- The promise run on small notes: what a call must answer. Assumes nothing.
-use mathlib.Core.Path.{◌≡◌, ◌∙◌}
-use mathlib.Core.List.{List, [], ◌∷◌, ◌++◌}
-use Prim.Native.Nat.{ℕ}
+use Rattle.std.proofs.Common.{Ok, ◌≡◌, ◌∙◌, List, [], ◌∷◌, ◌++◌, ℕ}
 use Rattle.lent.specs.Fill.{zeros}
 use Rattle.bundle_block.specs.Block.{little, weighed, check_of, front_of, block_of}
 use Rattle.bundle_run.specs.Run.{run_of}
 use Rattle.bundle_read.specs.Bundle.{bundle_of}
 use Rattle.bundle_read.proofs.Inverse.{length-bundle}
-use Rattle.bundle_writer.specs.declared.Packed.{Packed}
-use Rattle.bundle_writer.specs.declared.Packed.TheVariants.{Length}
-use Rattle.bundle_writer.specs.Packed.{number_of, value_of, choose, HasPacked}
+use Rattle.bundle_writer.specs.Packed.{Packed, number_of, value_of, choose, HasPacked}
 
 -- no text and no events are one block, with zeros behind it
-empty : {e : List ℕ} {r : Packed} → HasPacked [] [] 7 (zeros 600) e r → (r ≡ Length 512) × (e ≡ (7 ∷ 0 ∷ 0 ∷ 0 ∷ 0 ∷ 0 ∷ 1 ∷ []) ++ zeros 501 ++ (14 ∷ 0 ∷ 0 ∷ 0 ∷ []) ++ zeros 88)
+empty : {e : List ℕ} {r : Packed} → HasPacked [] [] 7 (zeros 600) e r → (r ≡ Ok 512) × (e ≡ (7 ∷ 0 ∷ 0 ∷ 0 ∷ 0 ∷ 0 ∷ 1 ∷ []) ++ zeros 501 ++ (14 ∷ 0 ∷ 0 ∷ 0 ∷ []) ++ zeros 88)
 unfolding choose bundle_of block_of front_of run_of check_of weighed little
 empty p = (p.answer, p.bytes)
 
 -- a text that is no UTF-8 is written: two blocks, for which one byte less is no room
-not-utf8 : {e : List ℕ} {r : Packed} → HasPacked (255 ∷ []) [] 0 (zeros 1024) e r → r ≡ Length 1024
+not-utf8 : {e : List ℕ} {r : Packed} → HasPacked (255 ∷ []) [] 0 (zeros 1024) e r → r ≡ Ok 1024
 unfolding choose
 not-utf8 p = p.answer ∙ rw (length-bundle (255 ∷ []) [] 0)
 

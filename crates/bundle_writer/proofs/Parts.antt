@@ -1,13 +1,10 @@
 -- What the code goes by on the parts of a bundle: the header, a run as long as is needed, and all of them one behind the other. Assumes nothing.
-use mathlib.Core.Path.{◌≡◌, sym, ◌∙◌}
-use mathlib.Core.List.{List, ◌++◌}
-use Prim.Native.Nat.{ℕ, ◌+◌, ◌-◌, ◌*◌, ◌≤◌}
-use native.Mathlib.Nat.{zero-add}
-use native.Mathlib.Omega.{arith}
-use lib.ListN.{length, take, drop, length-append}
-use lib.Seq.{take_at}
-use Rattle.lent.specs.Fill.{fill, past, Filled}
-use Rattle.lent.proofs.Laws.{both, fill-fill, take-fill}
+use Rattle.std.proofs.Common.{◌≡◌, sym, ◌∙◌, List, ◌++◌, ℕ, ◌+◌, ◌-◌, ◌*◌, ◌≤◌, zero-add, arith, length, take, drop, length-append, take_at}
+use Rattle.lent.specs.Fill.{fill}
+use Rattle.lent.specs.declared.Writer.{Writer}
+use Rattle.lent.specs.Writer.{Writes}
+use Rattle.lent.proofs.Laws.{take-fill}
+use Rattle.lent.proofs.Writing.{then, length-written}
 use Rattle.bundle_block.specs.Block.{little, block_of}
 use Rattle.bundle_block.proofs.Inverse.{length-block}
 use Rattle.bundle_run.specs.Run.{run_of}
@@ -24,35 +21,43 @@ fill-whole b s h = take_at s (drop (0 + length s) b) (length b) h
 pub take-filled : (d s : List ℕ) → length s ≤ length d → take (length s) (fill d 0 s) ≡ s
 take-filled d s h = rw zero-add at (take-fill d 0 s (rw zero-add h))
 
--- where the first has room, the second stands right behind it
-fill-then : (d s t : List ℕ) (at n : ℕ) → at + length s ≡ n → n ≤ length d → fill (fill d at s) n t ≡ fill d at (s ++ t)
-fill-then d s t at n p h = let q : past d at s ≡ n = omega arith in rw q at (fill-fill d at s t)
-
 -- ---- the header
 
-pub header-written : (edition kind x y : ℕ) (d : List ℕ) {b e f g : List ℕ} {half r : ℕ} → length b ≡ 8 → Filled b 0 (little 4 x) e half → Filled e half (little 4 y) f r → g ≡ fill d 0 (block_of edition 0 kind f)
-    → g ≡ fill d 0 (block_of edition 0 kind (little 4 x ++ little 4 y))
+pub words-written : (x y : ℕ) {u v w : Writer} → u.at ≡ 0 → length u.bytes.now ≡ 8 → Writes (little 4 x) u v → Writes (little 4 y) v w → w.bytes.now ≡ little 4 x ++ little 4 y
 unfolding little
-header-written edition kind x y d {b} h p q s = let w = (both p q).bytes ∙ fill-whole b (little 4 x ++ little 4 y) (sym h) in rw w at s
+words-written x y {u} z h p q = (then p q).filled.bytes ∙ rw z (fill-whole u.bytes.now (little 4 x ++ little 4 y) (sym h))
 
 -- ---- a run
 
-pub part-written : (edition kind room start : ℕ) (given d : List ℕ) {n : ℕ} {e : List ℕ} → n ≡ blocks_for room (length given) → e ≡ fill d (512 * start) (run_of edition kind room start (start + n - start) given)
-    → e ≡ fill d (512 * start) (run_of edition kind room start (blocks_for room (length given)) given)
-part-written edition kind room start given d {n} p q = let m : start + n - start ≡ n = omega arith in q ∙ rw (m, p)
+pub part-written : (edition kind room start : ℕ) (given : List ℕ) {n : ℕ} {u v : Writer} → n ≡ blocks_for room (length given) → Writes (run_of edition kind room start (start + n - start) given) u v
+    → Writes (run_of edition kind room start (blocks_for room (length given)) given) u v
+part-written edition kind room start given {n} p q = let m : start + n - start ≡ n = omega arith in rw (m, p) at q
 
 -- ---- all of them
 
-pub blocks-written : (text events : List ℕ) (edition : ℕ) (d : List ℕ) {e f g : List ℕ} {middle : ℕ} → 512 * (1 + blocks_for text_room (length text) + blocks_for event_room (length events)) ≤ length d
-    → e ≡ fill d 0 (block_of edition 0 header_kind (header_of text events)) → middle ≡ 1 + blocks_for text_room (length text)
-    → f ≡ fill e (512 * 1) (run_of edition text_kind text_room 1 (blocks_for text_room (length text)) text)
-    → g ≡ fill f (512 * middle) (run_of edition event_kind event_room middle (blocks_for event_room (length events)) events) → g ≡ fill d 0 (bundle_of text events edition)
-unfolding bundle_of little
-blocks-written text events edition d h p m q r =
-    let head = block_of edition 0 header_kind (header_of text events) in
-    let texts = run_of edition text_kind text_room 1 (blocks_for text_room (length text)) text in
-    let records = run_of edition event_kind event_room (1 + blocks_for text_room (length text)) (blocks_for event_room (length events)) events in
-    let a = length-block edition 0 header_kind (header_of text events) (omega arith) in
-    let b = length_run edition text_kind text_room (omega arith) (blocks_for text_room (length text)) 1 text in
-    let c = length-append head texts in
-    r ∙ rw (m, q, p, fill-then d head texts 0 512 (omega arith) (omega arith)) (fill-then d (head ++ texts) records 0 (512 * (1 + blocks_for text_room (length text))) (omega arith) (omega arith))
+module _ (text events : List ℕ) (edition : ℕ) {u v : Writer} (h : u.at + 512 * (1 + blocks_for text_room (length text) + blocks_for event_room (length events)) ≤ length u.bytes.now)
+    (p : Writes (block_of edition 0 header_kind (header_of text events)) u v) where
+  pub text-room : v.at + 512 * blocks_for text_room (length text) ≤ length v.bytes.now
+  unfolding little
+  text-room =
+      let a = length-block edition 0 header_kind (header_of text events) (omega arith) in
+      let b = length-written p in
+      let c = p.filled.place in
+      omega arith
+
+  module _ {w : Writer} (q : Writes (run_of edition text_kind text_room 1 (blocks_for text_room (length text)) text) v w) where
+    pub events-room : w.at + 512 * blocks_for event_room (length events) ≤ length w.bytes.now
+    unfolding little
+    events-room =
+        let a = length-block edition 0 header_kind (header_of text events) (omega arith) in
+        let b = length_run edition text_kind text_room (omega arith) (blocks_for text_room (length text)) 1 text in
+        let c = length-written p in
+        let d = length-written q in
+        let e = p.filled.place in
+        let f = q.filled.place in
+        omega arith
+
+    pub blocks-written : {x : Writer} {middle : ℕ} → middle ≡ 1 + blocks_for text_room (length text) → Writes (run_of edition event_kind event_room middle (blocks_for event_room (length events)) events) w x
+        → Writes (bundle_of text events edition) u x
+    unfolding bundle_of
+    blocks-written m r = then (then p q) (rw m at r)

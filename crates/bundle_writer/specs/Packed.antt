@@ -1,22 +1,25 @@
 -- The call that writes a bundle (RULES R15.8): its answer, the answer's numbers, and every byte of the buffer afterwards. Assumes nothing.
-use Rattle.std.specs.Prelude.{◌≡◌, Bool, not, ◌&&◌, List, ◌++◌, ℕ, ◌-◌, ◌*◌, ◌%◌, eqb, leb, ltb, length, if◌then◌else◌}
+use Rattle.std.specs.Prelude.{◌≡◌, Bool, not, ◌&&◌, List, ◌++◌, ℕ, ◌-◌, ◌*◌, ◌%◌, eqb, leb, ltb, length, Result, Ok, Err, if◌then◌else◌}
 use Rattle.lent.specs.Fill.{zeros}
 use Rattle.bundle_read.specs.Bundle.{bundle_of}
 use Rattle.bundle_read.specs.Sizes.{most_text, most_events, record_size}
-use Rattle.bundle_writer.specs.declared.Packed.{Packed}
-use Rattle.bundle_writer.specs.declared.Packed.TheVariants.{Length, WrongLength, NoRoom}
+use Rattle.bundle_writer.specs.declared.WriteRefusal.{WriteRefusal}
+use Rattle.bundle_writer.specs.declared.WriteRefusal.TheVariants.{WrongLength, NoRoom}
+
+-- the bundle's length, or why none was written
+abbrev pub Packed : Type 0
+Packed = Result ℕ WriteRefusal
 
 -- the number: 0 for an answer, else the refusal's
 abbrev pub number_of : Packed → ℕ
-number_of (Length n) = 0
-number_of WrongLength = 1
-number_of NoRoom = 9
+number_of (Ok n) = 0
+number_of (Err WrongLength) = 1
+number_of (Err NoRoom) = 9
 
 -- the length, or the refusal's place
 abbrev pub value_of : Packed → ℕ
-value_of (Length n) = n
-value_of WrongLength = 0
-value_of NoRoom = 0
+value_of (Ok n) = n
+value_of (Err r) = 0
 
 -- text and events of so many bytes are within the sizes of RULES R8.1, and the events are whole records
 abbrev pub right_lengths : (text events : ℕ) → Bool
@@ -31,7 +34,7 @@ choose text events edition room wrong none packed =
 
 -- a call with this text, these events and this edition, on the buffer d, answered r and left e
 pub record HasPacked (text events : List ℕ) (edition : ℕ) (d e : List ℕ) (r : Packed) : Type 0 where
-  pub answer : r ≡ choose text events edition (length d) WrongLength NoRoom (Length (length (bundle_of text events edition)))
+  pub answer : r ≡ choose text events edition (length d) (Err WrongLength) (Err NoRoom) (Ok (length (bundle_of text events edition)))
   pub number : number_of r ≡ choose text events edition (length d) 1 9 0
   pub value : value_of r ≡ choose text events edition (length d) 0 0 (length (bundle_of text events edition))
   pub bytes : e ≡ choose text events edition (length d) (zeros (length d)) (zeros (length d)) (bundle_of text events edition ++ zeros (length d - length (bundle_of text events edition)))

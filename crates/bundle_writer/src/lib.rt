@@ -2,7 +2,8 @@
 #![tactic(auto)]
 
 ghost use Rattle.std.specs.Prelude.{◌+◌, ◌*◌, ◌/◌, ◌≤◌, ◌<◌, ◌++◌, ◌≡◌, length};
-ghost use Rattle.lent.specs.Fill.{fill, zeros};
+ghost use Rattle.lent.specs.Fill.{zeros};
+ghost use Rattle.lent.specs.Writer.{Writes};
 ghost use Rattle.bundle_block.specs.Block.{little, block_of};
 ghost use Rattle.bundle_run.specs.Run.{run_of};
 ghost use Rattle.bundle_read.specs.Bundle.{blocks_for, bundle_of};
@@ -14,60 +15,65 @@ use bundle_read::{
 };
 use bundle_run::BLOCK;
 use event::Event;
+use lent::Writer;
 use little::U32;
 
-// The bundle's length, or why none was written.
+// Why no bundle was written.
 #[derive(Clone, Copy)]
-pub enum Packed {
-    Length(usize),
+pub enum WriteRefusal {
     WrongLength,
     NoRoom,
 }
 
-// Writes the bundle of a text, events and an edition. Neither text nor events are judged but for their lengths.
-pub fn write(text: &[u8], events: &[u8], edition: u32, out: &mut [u8]) -> Packed
+// Writes the bundle of a text, events and an edition, and says its length. Neither text nor events are judged but for their lengths.
+pub fn write(
+    text: &[u8],
+    events: &[u8],
+    edition: u32,
+    out: &mut [u8],
+) -> Result<usize, WriteRefusal>
     ensures { HasPacked text.now events.now edition out.old out.new result }
 {
     if !has_right_lengths(text.len(), events.len()) {
-        return refuse(out, Packed::WrongLength);
+        return refuse(out, WriteRefusal::WrongLength);
     }
     let length = bundle_length(text.len(), events.len());
     if out.len() < length {
-        return refuse(out, Packed::NoRoom);
+        return refuse(out, WriteRefusal::NoRoom);
     }
-    write_blocks(text, events, edition, out);
-    lent::clear(out, length);
-    Packed::Length(length)
+    let mut bundle = Writer { bytes: out, at: 0 };
+    write_blocks(text, events, edition, &mut bundle);
+    bundle.clear_rest();
+    Ok(length)
 }
 
 // An answer's number (RULES R7.1).
-pub fn number(p: Packed) -> u32
+pub fn number(p: Result<usize, WriteRefusal>) -> u32
     ensures { result ≡ number_of p }
 {
     match p {
-        Packed::Length(_) => 0,
-        Packed::WrongLength => 1,
-        Packed::NoRoom => 9,
+        Ok(_) => 0,
+        Err(WriteRefusal::WrongLength) => 1,
+        Err(WriteRefusal::NoRoom) => 9,
     }
 }
 
 // The length, or a refusal's place, which is 0.
-pub fn value(p: Packed) -> usize
+pub fn value(p: Result<usize, WriteRefusal>) -> usize
     ensures { result ≡ value_of p }
 {
     match p {
-        Packed::Length(n) => n,
-        Packed::WrongLength => 0,
-        Packed::NoRoom => 0,
+        Ok(n) => n,
+        Err(_) => 0,
     }
 }
 
 // A refusal leaves nothing in the buffer.
-fn refuse(out: &mut [u8], p: Packed) -> Packed
-    ensures { (result ≡ p) × (out.new ≡ zeros (length out.old)) }
+fn refuse(out: &mut [u8], r: WriteRefusal) -> Result<usize, WriteRefusal>
+    ensures { (result ≡ Err r) × (out.new ≡ zeros (length out.old)) }
 {
     lent::clear(out, 0);
-    p
+    Err(r)
 }
 
 fn has_right_lengths(text: usize, events: usize) -> bool
@@ -86,10 +92,10 @@ fn bundle_length(text: usize, events: usize) -> usize
     BLOCK * blocks
 }
 
-// Header, text blocks and event blocks, each where it stands.
-fn write_blocks(text: &[u8], events: &[u8], edition: u32, out: &mut [u8])
-    requires { (length text.now ≤ most_text) × (length events.now ≤ record_size * most_events) × (512 * (1 + blocks_for text_room (length text.now) + blocks_for event_room (length events.now)) ≤ length out.old) }
-    ensures { out.new ≡ fill out.old 0 (bundle_of text.now events.now edition) }
+// Header, text blocks and event blocks.
+fn write_blocks(text: &[u8], events: &[u8], edition: u32, out: &mut Writer)
+    requires { (length text.now ≤ most_text) × (length events.now ≤ record_size * most_events) × (out.old.at + 512 * (1 + blocks_for text_room (length text.now) + blocks_for event_room (length events.now)) ≤ length out.old.bytes.now) }
+    ensures { Writes (bundle_of text.now events.now edition) out.old out.new }
 {
     write_header(out, edition, text.len(), events.len());
     let middle = write_part(out, edition, TEXT_KIND, TEXT_ROOM, 1, text);
@@ -97,27 +103,31 @@ fn write_blocks(text: &[u8], events: &[u8], edition: u32, out: &mut [u8])
 }
 
 // Block 0 says how long the text is, and how many events there are.
-fn write_header(out: &mut [u8], edition: u32, text: usize, events: usize)
-    requires { 512 ≤ length out.old }
-    ensures { out.new ≡ fill out.old 0 (block_of edition 0 header_kind (little 4 text ++ little 4 (events / record_size))) }
+fn write_header(out: &mut Writer, edition: u32, text: usize, events: usize)
+    requires { out.old.at + 512 ≤ length out.old.bytes.now }
+    ensures { Writes (block_of edition 0 header_kind (little 4 text ++ little 4 (events / record_size))) out.old out.new }
 {
     let mut payload = [0u8; HEADER_USED];
-    let half = little::put(&mut payload, 0, U32, text);
-    little::put(&mut payload, half, U32, events / Event::SIZE);
-    bundle_block_writer::write_block(out, 0, edition, 0, HEADER_KIND, &payload);
+    let mut words = Writer {
+        bytes: &mut payload,
+        at: 0,
+    };
+    little::put(&mut words, U32, text);
+    little::put(&mut words, U32, events / Event::SIZE);
+    bundle_block_writer::write_block(out, edition, 0, HEADER_KIND, &payload);
 }
 
 // As many blocks as are needed, from `start` on; the answer is the number behind the last.
 fn write_part(
-    out: &mut [u8],
+    out: &mut Writer,
     edition: u32,
     kind: u8,
     room: usize,
     start: usize,
     given: &[u8],
 ) -> usize
-    requires { (0 < room) × (room ≤ 500) × (length given.now < 1000000000000) × (512 * (start + blocks_for room (length given.now)) ≤ length out.old) }
-    ensures { (result ≡ start + blocks_for room (length given.now)) × (out.new ≡ fill out.old (512 * start) (run_of edition kind room start (blocks_for room (length given.now)) given.now)) }
+    requires { (0 < room) × (room ≤ 500) × (length given.now < 1000000000000) × (out.old.at + 512 * blocks_for room (length given.now) ≤ length out.old.bytes.now) × (start < 1000000000000) }
+    ensures { (result ≡ start + blocks_for room (length given.now)) × Writes (run_of edition kind room start (blocks_for room (length given.now)) given.now) out.old out.new }
 {
     let end = start + bundle_read::blocks_for(room, given.len());
     bundle_block_writer::write_run(out, edition, kind, room, start, end, given);

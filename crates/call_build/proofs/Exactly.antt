@@ -1,34 +1,27 @@
 -- Two results that meet the promise are equal, and on a checked note the answer is the run's. Assumes nothing.
-use Rattle.std.specs.Prelude.{if◌then◌else◌}
-use mathlib.Core.Path.{◌≡◌, refl, sym, ap, ◌∙◌}
-use mathlib.Core.List.{List, ◌++◌}
-use Prim.Native.Nat.{ℕ, ◌-◌, ◌≤◌}
-use borrow.Author.Tests.{le-ltb}
-use lib.Dec.{eqb}
-use lib.ListN.{length}
+use Rattle.std.proofs.Common.{◌≡◌, List, ◌++◌, ℕ, ◌-◌, ◌≤◌, eqb, length, if◌then◌else◌, Ok, Err, refl, sym, ap, ◌∙◌, le-ltb}
 use Rattle.lent.specs.Fill.{zeros}
 use Rattle.regions.specs.Sizes.{work_size}
 use Rattle.event.specs.declared.EventIndex.{EventIndex}
 use Rattle.event.specs.Event.{events_of}
 use Rattle.check_rules.specs.Rules.{Meets}
 use Rattle.check_rules.proofs.Meets.{yes-meets}
-use Rattle.check_list.specs.declared.Checked.{Checked}
-use Rattle.check_list.specs.declared.Checked.TheVariants.{Yes, WrongLength, NotUtf8, Field, Nested, Slice, Count, Label}
+use Rattle.check_list.specs.declared.Refusal.{Refusal}
 use Rattle.check_list.specs.Checked.{event}
+use Rattle.check_list.specs.Checked as C
 use Rattle.machine.specs.declared.Options.{Options}
 use Rattle.machine.specs.Run.{Answer, page, refused, stopped, run_of}
-use Rattle.call_build_answer.specs.declared.Built.{Built}
-use Rattle.call_build_answer.specs.declared.Built.TheVariants.{Page, Refused, WorkFull, PageFull}
-use Rattle.call_build_answer.specs.Built.{checked_of}
+use Rattle.call_build_answer.specs.declared.Refusal.TheVariants.{Checked, WorkFull, PageFull}
+use Rattle.call_build_answer.specs.Built.{Built, checked_of}
 use Rattle.call_build.specs.Build.{Ends, Builds}
 use Rattle.call_build.proofs.Given.{Given, given}
 
 -- ---- the answer and the output, as functions of the checker's answer and the run's; by `given` none stops
 
 abbrev pub answer_of : Answer → Built
-answer_of (page b) = Page (length b)
-answer_of (refused number place) = if eqb number 8 then WorkFull (event place) else PageFull (event place)
-answer_of (stopped place) = PageFull (event place)
+answer_of (page b) = Ok (length b)
+answer_of (refused number place) = if eqb number 8 then Err (WorkFull (event place)) else Err (PageFull (event place))
+answer_of (stopped place) = Err (PageFull (event place))
 
 abbrev pub bytes_of : ℕ → Answer → List ℕ
 bytes_of room (page b) = b ++ zeros (room - length b)
@@ -36,25 +29,9 @@ bytes_of room (refused number place) = zeros room
 bytes_of room (stopped place) = zeros room
 
 -- by the checker's answer first
-abbrev pub after : {A : Type 0} → Checked → (Checked → A) → A → A
-after Yes failed passed = passed
-after WrongLength failed passed = failed WrongLength
-after NotUtf8 failed passed = failed NotUtf8
-after (Field i) failed passed = failed (Field i)
-after (Nested i) failed passed = failed (Nested i)
-after (Slice i) failed passed = failed (Slice i)
-after (Count i) failed passed = failed (Count i)
-after (Label i) failed passed = failed (Label i)
-
-after-no : {A : Type 0} (c : Checked) (failed : Checked → A) (passed : A) → (c ≡ Yes → ⊥) → failed c ≡ after c failed passed
-after-no Yes failed passed h = absurd (h refl)
-after-no WrongLength failed passed h = refl
-after-no NotUtf8 failed passed h = refl
-after-no (Field i) failed passed h = refl
-after-no (Nested i) failed passed h = refl
-after-no (Slice i) failed passed h = refl
-after-no (Count i) failed passed h = refl
-after-no (Label i) failed passed h = refl
+abbrev pub after : {A : Type 0} → C.Checked → (Refusal → A) → A → A
+after (Ok u) failed passed = passed
+after (Err c) failed passed = failed c
 
 same_index : (i : EventIndex) → i ≡ event i.0
 same_index i = refl
@@ -63,17 +40,17 @@ module _ (text events : List ℕ) (o : Options) (room work : ℕ) (out' : List �
   abbrev the-run : Answer
   the-run = run_of text o room (events_of events)
 
-  answer : (r : Built) → Ends text events o room work out' r → r ≡ after (checked_of text events work) Refused (answer_of the-run)
-  answer (Refused c) e = after-no c Refused (answer_of the-run) e.1 ∙ rw e.0
-  answer (Page n) e = rw (e.0, e.2, e.5)
-  answer (WorkFull i) e = rw (e.0, e.1) (ap WorkFull (same_index i))
-  answer (PageFull i) e = rw (e.0, e.1) (ap PageFull (same_index i))
+  answer : (r : Built) → Ends text events o room work out' r → r ≡ after (checked_of text events work) (λ c. Err (Checked c)) (answer_of the-run)
+  answer (Err (Checked c)) e = rw e.0
+  answer (Ok n) e = rw (e.0, e.2, e.5)
+  answer (Err (WorkFull i)) e = rw (e.0, e.1) (ap (λ (j : EventIndex). Err (WorkFull j)) (same_index i))
+  answer (Err (PageFull i)) e = rw (e.0, e.1) (ap (λ (j : EventIndex). Err (PageFull j)) (same_index i))
 
   bytes : (r : Built) → Ends text events o room work out' r → out' ≡ after (checked_of text events work) (λ c. zeros room) (bytes_of room the-run)
-  bytes (Refused c) e = e.4 ∙ after-no c (λ c. zeros room) (bytes_of room the-run) e.1 ∙ rw e.0
-  bytes (Page n) e = e.6 ∙ rw (e.0, e.2)
-  bytes (WorkFull i) e = e.2 ∙ rw (e.0, e.1)
-  bytes (PageFull i) e = e.2 ∙ rw (e.0, e.1)
+  bytes (Err (Checked c)) e = e.3 ∙ rw e.0
+  bytes (Ok n) e = e.6 ∙ rw (e.0, e.2)
+  bytes (Err (WorkFull i)) e = e.2 ∙ rw (e.0, e.1)
+  bytes (Err (PageFull i)) e = e.2 ∙ rw (e.0, e.1)
 
 module _ {text events : List ℕ} {o : Options} {out work : List ℕ} where
   -- two results that meet the promise are equal
@@ -90,5 +67,5 @@ module _ {text events : List ℕ} {o : Options} {out work : List ℕ} where
       × (out' ≡ bytes_of (length out) (run_of text o (length out) (events_of events)))
   exactly {out'} {r = r} m h p =
       let c = (yes-meets text events).1 m in
-      let y : checked_of text events (length work) ≡ Yes = rw (le-ltb (length work) work_size h) c in
+      let y : checked_of text events (length work) ≡ Ok tt = rw (le-ltb (length work) work_size h) c in
       (given text events o (length out) c, answer text events o (length out) (length work) out' r p.ended ∙ rw y, bytes text events o (length out) (length work) out' r p.ended ∙ rw y)

@@ -1,14 +1,7 @@
 -- On a checked note the run under limits gives a page, 8 or 9: it never stops. Assumes nothing.
-use Rattle.std.specs.Prelude.{if◌then◌else◌}
-use mathlib.Core.Path.{◌≡◌}
-use mathlib.Core.Bool.{Bool, true, false, ◌||◌}
-use mathlib.Core.List.{List}
+use Rattle.std.proofs.Common.{◌≡◌, Bool, true, false, ◌||◌, List, ℕ, ltb, length, if◌then◌else◌, Ok}
 use mathlib.Core.Option.{Option, none, some}
-use Prim.Native.Nat.{ℕ}
-use lib.Dec.{ltb}
-use lib.ListN.{length}
 use Rattle.event.specs.Event.{events_of}
-use Rattle.check_list.specs.declared.Checked.TheVariants.{Yes}
 use Rattle.check_list.specs.Checked.{check_of}
 use Rattle.machine.specs.declared.Options.{Options}
 use Rattle.machine.specs.State.{State}
@@ -57,7 +50,7 @@ module _ (room n : ℕ) where
   run-given (ends s) c k = finish-given s c k
   run-given (turns t {ts = ts} {s = s} {u} w g) c k = rw (run_from, within-exec (command_of t) t s u w) (limited u t.place (run_from n (over room) ts u) (run-given g c k))
 
-pub given : (text events : List ℕ) (o : Options) (room : ℕ) → check_of text events ≡ Yes → Given (run_of text o room (events_of events))
+pub given : (text events : List ℕ) (o : Options) (room : ℕ) → check_of text events ≡ Ok tt → Given (run_of text o room (events_of events))
 unfolding run_of run_with
 given text events o room y =
     let r = runs text events o y in

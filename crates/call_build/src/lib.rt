@@ -6,25 +6,35 @@ ghost use Rattle.regions.specs.Sizes.{work_size};
 ghost use Rattle.call_build.specs.Build.{Builds};
 ghost use Rattle.run_to_html.specs.Renders.{Renders};
 
-use call_build_answer::{Built, LEAST_WORK};
-use check_list::Checked;
+use call_build_answer::{LEAST_WORK, Refusal};
 use machine::Options;
-use run_answer::Rendered;
+use run_answer::Full;
 
 // Checks a note and writes its page into the output. Demands nothing: what is wrong is refused by its number.
-pub fn build(text: &[u8], events: &[u8], options: Options, out: &mut [u8], work: &mut [u8]) -> Built
+pub fn build(
+    text: &[u8],
+    events: &[u8],
+    options: Options,
+    out: &mut [u8],
+    work: &mut [u8],
+) -> Result<usize, Refusal>
     ensures { Builds text.now events.now options out.old work.old out.new work.new result }
 {
-    let checked = call_build_answer::check(text, events, work.len());
-    let Checked::Yes = checked else {
-        return call_build_answer::refuse(Built::Refused(checked), out, work);
-    };
+    if let Err(refusal) = call_build_answer::check(text, events, work.len()) {
+        return call_build_answer::refuse(Refusal::Checked(refusal), out, work);
+    }
     let rendered = render(text, events, options, out, work);
     call_build_answer::finish(rendered, out, work)
 }
 
 // The run is lent as many work bytes as it needs.
-fn render(text: &[u8], events: &[u8], options: Options, out: &mut [u8], work: &mut [u8]) -> Rendered
+fn render(
+    text: &[u8],
+    events: &[u8],
+    options: Options,
+    out: &mut [u8],
+    work: &mut [u8],
+) -> Result<usize, Full>
     requires { work_size ≤ length work.old }
     ensures { Renders text.now events.now options out.old out.new result }
 {

@@ -1,22 +1,11 @@
 -- Each URL of a list that is taken is one that a single call takes: short enough, and UTF-8. Assumes nothing.
-use Rattle.std.specs.Prelude.{if◌then◌else◌}
-use mathlib.Core.Path.{◌≡◌, refl, sym, ap, ◌∙◌}
-use mathlib.Core.Bool.{Bool, true, false}
-use mathlib.Core.List.{List, [], ◌∷◌, ◌++◌}
-use Prim.Native.Nat.{ℕ, suc, ◌+◌, ◌-◌, ◌≤◌}
-use native.Mathlib.Omega.{arith}
-use borrow.Author.Tests.{le-ltb}
-use lib.Dec.{T}
-use lib.ListN.{length, take, drop, length-take}
-use lib.Seq.{take-add}
+use Rattle.std.proofs.Common.{◌≡◌, Bool, true, false, T, List, [], ◌∷◌, ◌++◌, ℕ, suc, ◌+◌, ◌-◌, ◌≤◌, length, take, drop, if◌then◌else◌, Result, Ok, refl, sym, ap, ◌∙◌, arith, le-ltb, length-take, take-add}
 use Rattle.lent.proofs.Computed.{is_true}
 use Rattle.utf8.specs.declared.Due.TheVariants.{First}
 use Rattle.utf8.specs.Utf8.{is_utf8, inside, run}
 use Rattle.utf8.proofs.Laws.{of-first, boundary, run-append}
-use Rattle.call_text_answer.specs.declared.Written.{Written}
-use Rattle.call_text_answer.specs.declared.Written.TheVariants.{Length}
+use Rattle.call_text_answer.specs.declared.Refusal.{Refusal}
 use Rattle.call_text_answer.specs.Written.{choose, Wrote}
-use Rattle.call_links_answer.specs.declared.Taken.TheVariants.{Yes}
 use Rattle.call_links_answer.specs.Links.{link_of, ordered, uncut}
 use Rattle.call_links_answer.specs.Listed.{taken_of}
 use Rattle.call_links_answer.proofs.Good.{good}
@@ -58,9 +47,9 @@ module _ (text : List ℕ) (v : T (is_utf8 text)) (s : length text ≤ 64000) wh
       one (n, slice-valid text from e o.0 p q) (each-valid e es q o.2 u.1)
 
 -- a single call refuses no URL of a list that is taken, but for want of room
-pub each-taken : (text ends : List ℕ) (places : ℕ) → taken_of text ends places ≡ Yes → Every IsTaken (urls_from text 0 ends)
+pub each-taken : (text ends : List ℕ) (places : ℕ) → taken_of text ends places ≡ Ok tt → Every IsTaken (urls_from text 0 ends)
 each-taken text ends places p = let g = good text ends places p in each-valid text (rw g.valid tt) g.short 0 ends refl g.order g.whole
 
-pub answers : (on : Bool) {url d e : List ℕ} {r : Written} → IsTaken url → Wrote url (link_of on url) d e r → length (link_of on url) ≤ length d → r ≡ Length (length (link_of on url))
+pub answers : (on : Bool) {url d e : List ℕ} {r : Result ℕ Refusal} → IsTaken url → Wrote url (link_of on url) d e r → length (link_of on url) ≤ length d → r ≡ Ok (length (link_of on url))
 unfolding choose
 answers on {url} {d} h w k = w.answer ∙ rw (le-ltb 64000 (length url) h.0, is_true (is_utf8 url) h.1, le-ltb (length d) (length (link_of on url)) k)

@@ -1,18 +1,9 @@
 -- The loop over the URLs: what was written and what is left to write are the whole list. Assumes nothing.
-use mathlib.Core.Path.{◌≡◌, refl, sym, ap, ◌∙◌}
-use mathlib.Core.Bool.{Bool}
-use mathlib.Core.List.{List, [], ◌∷◌, ◌++◌}
-use Prim.Native.Nat.{ℕ, suc, ◌+◌, ◌-◌, ◌*◌, ◌≤◌, ◌<◌}
-use native.Mathlib.Nat.{zero-add}
-use native.Mathlib.Omega.{arith}
-use mir.Syntax.{w32}
-use mir.Val.{Fits}
-use lib.ListN.{length, take, drop, set, get_or, drop_of_length-le}
+use Rattle.std.proofs.Common.{◌≡◌, Bool, List, [], ◌∷◌, ◌++◌, ℕ, ◌+◌, ◌-◌, ◌≤◌, ◌<◌, length, take, drop, set, get_or, Result, Ok, sym, ap, ◌∙◌, zero-add, arith, w32, Fits, drop_of_length-le}
 use Rattle.lent.specs.Fill.{zeros, Filled}
 use Rattle.lent.proofs.Laws.{length-filled, take-fill, next, put_in, Left, all, step, done}
-use Rattle.call_links_answer.specs.declared.Listed.{Listed}
-use Rattle.call_links_answer.specs.declared.Listed.TheVariants.{Length, NoRoom}
-use Rattle.call_links_answer.specs.declared.Taken.TheVariants.{Yes}
+use Rattle.call_links_answer.specs.declared.Refusal.{Refusal}
+use Rattle.call_links_answer.specs.declared.Refusal.TheVariants.{NoRoom}
 use Rattle.call_links_answer.specs.Links.{link_of, links_from, joined, lengths_of, ordered, fitting}
 use Rattle.call_links_answer.specs.Listed.{Lists, taken_of, filled, Refuses, Finishes}
 use Rattle.call_links_answer.proofs.Promise.{told}
@@ -29,7 +20,7 @@ pub record Going (on : Bool) (text ends d l d' l' : List ℕ) (i from at : ℕ) 
   pub lengths : Left l 0 (lengths_of (links_from on text 0 ends)) l' i (lengths_of (links_from on text from (drop i ends)))
   pub fit : i + fitting (length d' - at) (links_from on text from (drop i ends)) ≡ fitting (length d) (links_from on text 0 ends)
 
-pub begins : (on : Bool) (text ends d l : List ℕ) → taken_of text ends (length l) ≡ Yes → Going on text ends d l d l 0 0 0
+pub begins : (on : Bool) (text ends d l : List ℕ) → taken_of text ends (length l) ≡ Ok tt → Going on text ends d l d l 0 0 0
 begins on text ends d l p =
     let e : length d - 0 ≡ length d = omega arith in
     record {
@@ -76,13 +67,13 @@ module _ {on : Bool} {text ends d l d' l' : List ℕ} {i from at e : ℕ} (g : G
       place = let q = k.place in let r = g.room in omega (arith, same-room)
 
       -- its length is a word
-      pub is_word : taken_of text ends (length l) ≡ Yes → Fits w32 (b - at)
+      pub is_word : taken_of text ends (length l) ≡ Ok tt → Fits w32 (b - at)
       is_word t = omega (arith, place, link-short on (drop from text) (e - from), ends-within, (good text ends (length l) t).short)
 
-      pub has-place : taken_of text ends (length l) ≡ Yes → i < length l'
+      pub has-place : taken_of text ends (length l) ≡ Ok tt → i < length l'
       has-place t = omega (arith, g.lengths.long, (good text ends (length l) t).enough)
 
-      pub goes : taken_of text ends (length l) ≡ Yes → Going on text ends d l f (set l' i (b - at)) (i + 1) e b
+      pub goes : taken_of text ends (length l) ≡ Ok tt → Going on text ends d l f (set l' i (b - at)) (i + 1) e b
       goes t =
           let r = g.room in
           let x : b - at ≡ length (link_of on (take (e - from) (drop from text))) = omega (arith, place) in
@@ -108,18 +99,19 @@ kept {d} {s} {e} {f} {at} k h p =
     let t : take (length s) e ≡ s = rw zero-add at (ap (take (0 + length s)) k.bytes ∙ take-fill d 0 s (omega arith)) in
     (n, p ∙ rw (n, l, t))
 
-module _ {on : Bool} {text ends d l d' l' e m : List ℕ} {i from at : ℕ} {r : Listed} (t : taken_of text ends (length l) ≡ Yes) (g : Going on text ends d l d' l' i from at) where
+module _ {on : Bool} {text ends d l d' l' e m : List ℕ} {i from at : ℕ} {r : Result ℕ Refusal} (t : taken_of text ends (length l) ≡ Ok tt) (g : Going on text ends d l d' l' i from at) where
   pub no_room_lem : {f : List ℕ} {n b : ℕ} → i < length ends → n ≡ get_or ends i 0 → Filled d' at (link_of on (take (n - from) (drop from text))) f b → length f < b → Refuses f l' (NoRoom i) e m r
       → Lists on text ends d l e m r
   no_room_lem h p k u q =
       let x = sym (length-filled k ∙ g.bytes.long) in
       told (q.answer ∙ none_answers text ends (length l) t on (length d) (lacks g h p k u) h) (rw (q.answer, x) q.bytes) (rw (q.answer, ← g.lengths.long) q.lengths)
 
-  pub ended : i ≤ length ends → length ends ≤ i → Finishes d' l' at i e m r → Lists on text ends d l e m r
+  pub ended : i ≤ length ends → length ends ≤ i → Finishes d' l' at (length ends) e m r → Lists on text ends d l e m r
   ended h k q =
+      let c : length ends ≡ i = omega arith in
       let n : links_from on text from (drop i ends) ≡ [] = rw (drop_of_length-le ends k) (links-none on text from) in
       let x = kept (done (ap joined n) g.bytes) g.room q.bytes in
-      let y = kept (done (ap lengths_of n) g.lengths) (omega (arith, g.lengths.long, (good text ends (length l) t).enough)) q.lengths in
+      let y = kept (done (ap lengths_of n) g.lengths) (omega (arith, g.lengths.long, (good text ends (length l) t).enough)) (rw c at q.lengths) in
       let a = all-answer text ends (length l) t on (length d) (omega (arith, rw n at g.fit, fits-none (length d' - at))) in
-      let w : r ≡ Length (length (joined (links_from on text 0 ends))) = q.answer ∙ ap Length x.0 in
+      let w : r ≡ Ok (length (joined (links_from on text 0 ends))) = q.answer ∙ ap (λ (n : ℕ). Ok n) x.0 in
       told (w ∙ a) (rw w x.1) (rw w y.1)

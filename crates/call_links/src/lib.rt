@@ -6,7 +6,9 @@ ghost use Rattle.lent.specs.Fill.{Filled};
 ghost use Rattle.call_links_answer.specs.Links.{link_of};
 ghost use Rattle.call_links_answer.specs.Listed.{Lists, taken_of};
 
-use call_links_answer::{Listed, Taken};
+use call_links_answer::Refusal;
+use lent::Writer;
+use sanitize_uri::Protocols;
 
 // Makes each URL of a list safe for a link, as single calls would (RULES R22).
 pub fn sanitize_links(
@@ -15,12 +17,12 @@ pub fn sanitize_links(
     apostrophes: bool,
     out: &mut [u8],
     lengths: &mut [u32],
-) -> Listed
+) -> Result<usize, Refusal>
     ensures { Lists apostrophes text.now ends.now out.old lengths.old out.new lengths.new result }
 {
     match call_links_answer::take_list(text, ends, lengths.len()) {
-        Taken::Refused(r) => call_links_answer::refuse(out, lengths, r),
-        Taken::Yes => write(text, ends, apostrophes, out, lengths),
+        Ok(()) => write(text, ends, apostrophes, out, lengths),
+        Err(refusal) => call_links_answer::refuse(out, lengths, refusal),
     }
 }
 
@@ -31,30 +33,30 @@ fn write(
     apostrophes: bool,
     out: &mut [u8],
     lengths: &mut [u32],
-) -> Listed
-    requires { taken_of text.now ends.now (length lengths.old) ≡ Taken.Yes }
+) -> Result<usize, Refusal>
+    requires { taken_of text.now ends.now (length lengths.old) ≡ Ok tt }
     ensures { Lists apostrophes text.now ends.now out.old lengths.old out.new lengths.new result }
 {
-    let mut i: usize = 0;
     let mut from: usize = 0;
     let mut at: usize = 0;
-    while i < ends.len() {
-        let end = call_links_answer::wide(ends[i]);
+    for (i, end) in ends.iter().enumerate() {
+        let end = *end as usize;
         let behind = append(&text[from..end], apostrophes, out, at);
         if out.len() < behind {
-            return call_links_answer::refuse(out, lengths, Listed::NoRoom(i));
+            return call_links_answer::refuse(out, lengths, Refusal::NoRoom(i));
         }
         lengths[i] = (behind - at) as u32;
         from = end;
         at = behind;
-        i += 1;
     }
-    call_links_answer::finish(out, lengths, at, i)
+    call_links_answer::finish(out, lengths, at, ends.len())
 }
 
 // What a single call appends: the one place that sanitizes.
 fn append(url: &[u8], apostrophes: bool, out: &mut [u8], at: usize) -> usize
     ensures { Filled out.old at (link_of apostrophes url.now) out.new result }
 {
-    sanitize_uri::sanitize_with_protocols(url, sanitize_uri::Protocols::Link, apostrophes, out, at)
+    let mut written = Writer { bytes: out, at };
+    sanitize_uri::sanitize_with_protocols(url, Protocols::Link, apostrophes, &mut written);
+    written.at
 }

@@ -1,12 +1,6 @@
--- The two loops over the ends: the URLs that were passed, and those that are left without a fault, make the whole count. Assumes nothing.
-use Rattle.std.specs.Prelude.{if◌then◌else◌}
-use mathlib.Core.Path.{◌≡◌, refl, sym, ◌∙◌}
-use mathlib.Core.Bool.{Bool, true, false, ◌||◌}
-use mathlib.Core.List.{List, [], ◌∷◌}
-use Prim.Native.Nat.{ℕ, suc, ◌+◌, ◌≤◌, ◌<◌}
-use native.Mathlib.Omega.{arith}
-use lib.Dec.{ltb}
-use lib.ListN.{length, drop, get_or, drop_of_length-le}
+-- The loop over the ends: the URLs that were passed, and those that are left without a fault, make the whole count. And the first end that is cut. Assumes nothing.
+use Rattle.std.proofs.Common.{◌≡◌, Bool, true, false, ◌||◌, List, [], ◌∷◌, ℕ, suc, ◌+◌, ◌≤◌, ◌<◌, ltb, length, drop, get_or, refl, sym, ◌∙◌, not, cond, position, Some, None, nat_lt, if◌then◌else◌, arith, ltb-true, ltb-false, drop_of_length-le}
+use Rattle.std.specs.List.{prefix_len}
 use Rattle.lent.proofs.Laws.{next}
 use Rattle.utf8.specs.Utf8.{inside}
 use Rattle.call_links_answer.specs.Links.{ordered, uncut}
@@ -26,17 +20,36 @@ pub ordered-none : (size from : ℕ) → ordered size from [] ≡ 0
 unfolding ordered
 ordered-none size from = refl
 
-uncut-here : (text : List ℕ) (e : ℕ) (es : List ℕ) → inside text e ≡ true → uncut text (e ∷ es) ≡ 0
-unfolding uncut
-uncut-here text e es p = rw p
+-- the first that is cut, or how many there are
+module _ (text : List ℕ) where
+  abbrev passes : ℕ → Bool
+  passes e = not (inside text e)
 
-uncut-more : (text : List ℕ) (e : ℕ) (es : List ℕ) → inside text e ≡ false → uncut text (e ∷ es) ≡ suc (uncut text es)
-unfolding uncut
-uncut-more text e es p = rw p
+  uncut-prefix : (es : List ℕ) → prefix_len passes es ≡ uncut text es
+  unfolding uncut
+  uncut-prefix [] = refl
+  uncut-prefix (e ∷ es) = on (inside text e) (uncut-prefix es)
+    where
+      on : (x : Bool) → prefix_len passes es ≡ uncut text es → cond (not x) (1 + prefix_len passes es) 0 ≡ (if x then 0 else suc (uncut text es))
+      on true h = refl
+      on false h = omega arith
 
-uncut-none : (text : List ℕ) → uncut text [] ≡ 0
-unfolding uncut
-uncut-none text = refl
+  module _ (es : List ℕ) where
+    some-case : (n m k : ℕ) (x : Bool) → nat_lt n m ≡ x → cond x (Some n) None ≡ Some k → (k ≡ n) × (n < m)
+    some-case n m k true p q = (cc, ltb-true n m p)
+    some-case n m k false p q = cc
+
+    none-case : (n m : ℕ) (x : Bool) → nat_lt n m ≡ x → cond x (Some n) None ≡ None → m ≤ n
+    none-case n m true p q = cc
+    none-case n m false p q = ltb-false n m p
+
+    pub some-cut : {k : ℕ} → Some k ≡ position (λ e. inside text e) es → (k ≡ uncut text es) × (k < length es)
+    some-cut {k} p =
+        let h = some-case (prefix_len passes es) (length es) k (nat_lt (prefix_len passes es) (length es)) refl (sym p) in
+        (h.0 ∙ uncut-prefix es, omega arith)
+
+    pub none-cut : None ≡ position (λ e. inside text e) es → length es ≤ uncut text es
+    none-cut p = omega (arith, none-case (prefix_len passes es) (length es) (nat_lt (prefix_len passes es) (length es)) refl (sym p), uncut-prefix es)
 
 -- ---- at the index i
 
@@ -50,18 +63,5 @@ module _ (size : ℕ) (ends : List ℕ) (before i n : ℕ) {e : ℕ} (p : e ≡ 
   pub goes_on : (ltb e before || ltb size e) ≡ false → i + 1 + ordered size e (drop (i + 1) ends) ≡ n
   goes_on k = omega (arith, here, ordered-goes size before e (drop (i + 1) ends) k)
 
-pub all-ordered : (size : ℕ) (ends : List ℕ) (before i n : ℕ) → length ends ≤ i → i + ordered size before (drop i ends) ≡ n → i ≡ n
-all-ordered size ends before i n h q = omega (arith, rw (drop_of_length-le ends h) at q, ordered-none size before)
-
-module _ (text ends : List ℕ) (i n : ℕ) {e : ℕ} {x : Bool} (p : e ≡ get_or ends i 0) (h : i < length ends) (k : x ≡ inside text e) (q : i + uncut text (drop i ends) ≡ n) where
-  there : i + uncut text (e ∷ drop (i + 1) ends) ≡ n
-  there = rw p (rw (next ends i h) at q)
-
-  pub cuts : x ≡ true → i ≡ n
-  cuts t = omega (arith, there, uncut-here text e (drop (i + 1) ends) (sym k ∙ t))
-
-  pub leaves : x ≡ false → i + 1 + uncut text (drop (i + 1) ends) ≡ n
-  leaves t = omega (arith, there, uncut-more text e (drop (i + 1) ends) (sym k ∙ t))
-
-pub all-uncut : (text ends : List ℕ) (i n : ℕ) → length ends ≤ i → i + uncut text (drop i ends) ≡ n → i ≡ n
-all-uncut text ends i n h q = omega (arith, rw (drop_of_length-le ends h) at q, uncut-none text)
+pub all-ordered : (size : ℕ) (ends : List ℕ) (before i n : ℕ) → length ends ≤ i → i ≤ length ends → i + ordered size before (drop i ends) ≡ n → length ends ≡ n
+all-ordered size ends before i n h k q = omega (arith, rw (drop_of_length-le ends h) at q, ordered-none size before)

@@ -1,19 +1,13 @@
 -- The answer, and what it leaves in the buffers, make the promise; two results that meet it are equal. Assumes nothing.
-use Rattle.std.specs.Prelude.{if◌then◌else◌}
-use mathlib.Core.Path.{◌≡◌, refl, sym, ap, ◌∙◌}
-use mathlib.Core.Bool.{Bool, true, false, not}
-use mathlib.Core.List.{List}
-use Prim.Native.Nat.{ℕ}
-use lib.Dec.{ltb}
-use lib.ListN.{length}
+use Rattle.std.proofs.Common.{◌≡◌, Bool, true, false, not, List, ℕ, ltb, length, if◌then◌else◌, Result, Ok, Err, refl, sym, ap, ◌∙◌}
 use Rattle.utf8.specs.Utf8.{is_utf8}
-use Rattle.call_links_answer.specs.declared.Listed.{Listed}
-use Rattle.call_links_answer.specs.declared.Listed.TheVariants.{Length, WrongSize, WrongEnd, NotUtf8, Cut, NoRoom}
+use Rattle.call_links_answer.specs.declared.Refusal.{Refusal}
+use Rattle.call_links_answer.specs.declared.Refusal.TheVariants.{WrongSize, WrongEnd, NotUtf8, Cut, NoRoom}
 use Rattle.call_links_answer.specs.Links.{links_from, ordered, uncut, fitting, joined, lengths_of}
 use Rattle.call_links_answer.specs.Listed.{number_of, value_of, choose, Lists, left}
 
 -- two results that meet the promise are equal
-pub unique : {on : Bool} {text ends d l e m e' m' : List ℕ} {r s : Listed} → Lists on text ends d l e m r → Lists on text ends d l e' m' s → (r ≡ s) × (e ≡ e') × (m ≡ m')
+pub unique : {on : Bool} {text ends d l e m e' m' : List ℕ} {r s : Result ℕ Refusal} → Lists on text ends d l e m r → Lists on text ends d l e' m' s → (r ≡ s) × (e ≡ e') × (m ≡ m')
 unique p q = (p.answer ∙ sym q.answer, p.bytes ∙ sym q.bytes, p.lengths ∙ sym q.lengths)
 
 -- ---- what the answer says of the buffers is the promise
@@ -39,14 +33,14 @@ module _ (on : Bool) (text ends : List ℕ) (room places : ℕ) where
       picked-map f (ltb 64000 (length text)) (ltb places (length ends)) (ltb (ordered (length text) 0 ends) (length ends)) (is_utf8 text) (ltb (uncut text ends) (length ends))
       (ltb (fitting room (links_from on text 0 ends)) (length ends)) (ordered (length text) 0 ends) (uncut text ends) (fitting room (links_from on text 0 ends)) a b c d g h
 
-  abbrev pub answer_of : Listed
-  answer_of = choose on text ends room places WrongSize WrongEnd NotUtf8 Cut NoRoom (Length (length (joined (links_from on text 0 ends))))
+  abbrev pub answer_of : Result ℕ Refusal
+  answer_of = choose on text ends room places (Err WrongSize) (λ k. Err (WrongEnd k)) (Err NotUtf8) (λ k. Err (Cut k)) (λ k. Err (NoRoom k)) (Ok (length (joined (links_from on text 0 ends))))
 
-  told-by : {A : Type 0} (f : Listed → A) {r : Listed} → r ≡ answer_of
-      → f r ≡ choose on text ends room places (f WrongSize) (λ k. f (WrongEnd k)) (f NotUtf8) (λ k. f (Cut k)) (λ k. f (NoRoom k)) (f (Length (length (joined (links_from on text 0 ends)))))
-  told-by f p = ap f p ∙ choose-map f WrongSize WrongEnd NotUtf8 Cut NoRoom (Length (length (joined (links_from on text 0 ends))))
+  told-by : {A : Type 0} (f : Result ℕ Refusal → A) {r : Result ℕ Refusal} → r ≡ answer_of
+      → f r ≡ choose on text ends room places (f (Err WrongSize)) (λ k. f (Err (WrongEnd k))) (f (Err NotUtf8)) (λ k. f (Err (Cut k))) (λ k. f (Err (NoRoom k))) (f (Ok (length (joined (links_from on text 0 ends)))))
+  told-by f p = ap f p ∙ choose-map f (Err WrongSize) (λ k. Err (WrongEnd k)) (Err NotUtf8) (λ k. Err (Cut k)) (λ k. Err (NoRoom k)) (Ok (length (joined (links_from on text 0 ends))))
 
-pub told : {on : Bool} {text ends d l e m : List ℕ} {r : Listed} → r ≡ answer_of on text ends (length d) (length l) → e ≡ left d (joined (links_from on text 0 ends)) r → m ≡ left l (lengths_of (links_from on text 0 ends)) r
+pub told : {on : Bool} {text ends d l e m : List ℕ} {r : Result ℕ Refusal} → r ≡ answer_of on text ends (length d) (length l) → e ≡ left d (joined (links_from on text 0 ends)) r → m ≡ left l (lengths_of (links_from on text 0 ends)) r
     → Lists on text ends d l e m r
 told {on} {text} {ends} {d} {l} p q s =
     record {

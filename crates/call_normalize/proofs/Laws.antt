@@ -1,25 +1,17 @@
 -- What the call goes by, that two results that meet its contract are equal, and that no more is visited than bytes. Assumes nothing.
-use Rattle.std.specs.Prelude.{if◌then◌else◌}
-use mathlib.Core.Path.{◌≡◌, refl, sym, ap, ◌∙◌}
-use mathlib.Core.Bool.{Bool, true, false, not}
-use mathlib.Core.List.{List}
-use Prim.Native.Nat.{ℕ, ◌≤◌}
-use native.Mathlib.Omega.{arith}
-use lib.Dec.{ltb}
-use lib.ListN.{length}
+use Rattle.std.proofs.Common.{◌≡◌, Bool, true, false, not, List, ℕ, ◌≤◌, ltb, length, if◌then◌else◌, Result, Ok, Err, refl, sym, ap, ◌∙◌, arith}
 use Rattle.utf8.specs.Utf8.{is_utf8}
 use Rattle.normalize_uri.specs.Url.{normalize_of}
 use Rattle.normalize_visits.specs.Visits.{visits_of}
 use Rattle.normalize_visits.proofs.Laws.{most}
-use Rattle.call_text_answer.specs.declared.Written.{Written}
-use Rattle.call_text_answer.specs.declared.Written.TheVariants as W
+use Rattle.call_text_answer.specs.declared.Refusal.{Refusal}
+use Rattle.call_text_answer.specs.declared.Refusal.TheVariants.{TooLong, NotUtf8, NoRoom}
 use Rattle.call_text_answer.specs.Written.{choose, Wrote}
-use Rattle.call_normalize.specs.declared.Normalized.{Normalized}
-use Rattle.call_normalize.specs.declared.Normalized.TheVariants.{Url, TooLong, NotUtf8, NoRoom}
+use Rattle.call_normalize.specs.declared.Url.{Url}
 use Rattle.call_normalize.specs.Normalized.{number_of, value_of, visits_in, chosen, HasNormalized}
 
 -- two results that meet the contract are equal
-pub unique : {url d e f : List ℕ} {a b : Normalized} → HasNormalized url d e a → HasNormalized url d f b → (a ≡ b) × (e ≡ f)
+pub unique : {url d e f : List ℕ} {a b : Result Url Refusal} → HasNormalized url d e a → HasNormalized url d f b → (a ≡ b) × (e ≡ f)
 unique p q = (p.answer ∙ sym q.answer, p.bytes ∙ sym q.bytes)
 
 -- ---- what is chosen, as another choice
@@ -38,34 +30,29 @@ module _ (url : List ℕ) (room : ℕ) where
 
 -- ---- from the text that was written, and the visits
 
-abbrev counted : List ℕ → Written → Normalized
-counted url (W.Length n) = Url n (visits_of url)
-counted url W.TooLong = TooLong
-counted url W.NotUtf8 = NotUtf8
-counted url W.NoRoom = NoRoom
+abbrev counted : List ℕ → Result ℕ Refusal → Result Url Refusal
+counted url (Ok n) = Ok (record { length = n; visits = visits_of url })
+counted url (Err r) = Err r
 
-module _ {url d e : List ℕ} {w : Written} (p : Wrote url (normalize_of url) d e w) where
-  module _ {r : Normalized} (q : r ≡ counted url w) where
-    chose : r ≡ chosen url (length d) TooLong NotUtf8 NoRoom (Url (length (normalize_of url)) (visits_of url))
-    chose = q ∙ ap (counted url) p.answer ∙ as-chosen url (length d) (counted url) W.TooLong W.NotUtf8 W.NoRoom (W.Length (length (normalize_of url)))
+abbrev whole : List ℕ → Url
+whole url = record { length = length (normalize_of url); visits = visits_of url }
 
-    told : {A : Type 0} (f : Normalized → A) → f r ≡ chosen url (length d) (f TooLong) (f NotUtf8) (f NoRoom) (f (Url (length (normalize_of url)) (visits_of url)))
-    told f = ap f chose ∙ as-chosen url (length d) f TooLong NotUtf8 NoRoom (Url (length (normalize_of url)) (visits_of url))
+module _ {url d e : List ℕ} {w : Result ℕ Refusal} (p : Wrote url (normalize_of url) d e w) where
+  module _ {r : Result Url Refusal} (q : r ≡ counted url w) where
+    chose : r ≡ chosen url (length d) (Err TooLong) (Err NotUtf8) (Err NoRoom) (Ok (whole url))
+    chose = q ∙ ap (counted url) p.answer ∙ as-chosen url (length d) (counted url) (Err TooLong) (Err NotUtf8) (Err NoRoom) (Ok (length (normalize_of url)))
+
+    told : {A : Type 0} (f : Result Url Refusal → A) → f r ≡ chosen url (length d) (f (Err TooLong)) (f (Err NotUtf8)) (f (Err NoRoom)) (f (Ok (whole url)))
+    told f = ap f chose ∙ as-chosen url (length d) f (Err TooLong) (Err NotUtf8) (Err NoRoom) (Ok (whole url))
 
     all : HasNormalized url d e r
     all = record { answer = chose; number = told number_of; value = told value_of; visits = told visits_in; bytes = p.bytes }
 
-  pub written : (n v : ℕ) → w ≡ W.Length n → v ≡ visits_of url → HasNormalized url d e (Url n v)
+  pub written : (n v : ℕ) → w ≡ Ok n → v ≡ visits_of url → HasNormalized url d e (Ok (record { length = n; visits = v }))
   written n v h k = all (rw (h, k))
 
-  pub too_long : w ≡ W.TooLong → HasNormalized url d e TooLong
-  too_long h = all (rw h)
-
-  pub not-utf8 : w ≡ W.NotUtf8 → HasNormalized url d e NotUtf8
-  not-utf8 h = all (rw h)
-
-  pub no_room_lem : w ≡ W.NoRoom → HasNormalized url d e NoRoom
-  no_room_lem h = all (rw h)
+  pub refused : (r : Refusal) → w ≡ Err r → HasNormalized url d e (Err r)
+  refused r h = all (rw h)
 
 -- ---- no more visits than bytes, after a refusal too
 
@@ -75,6 +62,6 @@ within false false lacks n m v h q = omega arith
 within false true true n m v h q = omega arith
 within false true false n m v h q = omega arith
 
-pub most-visits : {url d e : List ℕ} {r : Normalized} → HasNormalized url d e r → visits_in r ≤ length url
+pub most-visits : {url d e : List ℕ} {r : Result Url Refusal} → HasNormalized url d e r → visits_in r ≤ length url
 unfolding choose
 most-visits {url} {d} {r = r} p = within (ltb 64000 (length url)) (is_utf8 url) (ltb (length d) (length (normalize_of url))) (length url) (visits_of url) (visits_in r) (most url) p.visits

@@ -1,7 +1,7 @@
 -- Sanitizing gives at most five bytes for each byte, and all & reaches it; normalizing three, which all spaces reach. Assumes nothing.
 use mathlib.Core.Path.{◌≡◌, refl, ap, ◌∙◌}
 use mathlib.Core.Bool.{Bool, true, false}
-use mathlib.Core.List.{List, [], ◌∷◌, ◌++◌}
+use mathlib.Core.List.{List, [], ◌∷◌}
 use Prim.Native.Nat.{ℕ, zero, suc, ◌+◌, ◌*◌, ◌/◌, ◌%◌, ◌≤◌}
 use native.Mathlib.Decide.{dec_lt}
 use native.Mathlib.Omega.{arith}
@@ -14,7 +14,7 @@ use Rattle.encode.specs.Encode.{encode_byte, encode_of}
 use Rattle.url_byte.specs.Byte.{stays, hex_upper, percent, url_byte}
 use Rattle.url_byte.proofs.Laws.{hex-low, hex-high}
 use Rattle.sanitize_uri.specs.Url.{normalize_of, sanitize_of}
-use Rattle.sanitize_uri.specs.declared.Colon.TheVariants.{Missing}
+use Rattle.std.specs.Prelude.{None}
 use Rattle.sanitize_uri.specs.Protocols.{colon_from, colon_of, is_allowed, sanitize_with_protocols_of}
 use Rattle.call_room.specs.Room.{most_sanitized, most_normalized}
 use Rattle.call_room.proofs.Growth.{grows, reaches, either}
@@ -92,7 +92,7 @@ unfolding sanitize_with_protocols_of
 listed-most apostrophes schemes url =
     either (is_allowed schemes url) (most_sanitized * length url) (sanitize_of apostrophes url) [] (sanitized-most apostrophes url) (omega arith)
 
-no-colon : (i n : ℕ) → colon_from i (replicate n 38) ≡ Missing
+no-colon : (i n : ℕ) → colon_from i (replicate n 38) ≡ None
 unfolding colon_from
 no-colon i zero = refl
 no-colon i (suc n) = no-colon (i + 1) n

@@ -3,13 +3,15 @@
 
 ghost use Rattle.std.specs.Prelude.{◌+◌, ◌≤◌, ◌<◌, ◌≡◌, length};
 
-use bundle_parts::{Progress, Reader};
-use bundle_writer::Packed;
-use call_links_answer::Listed;
+use bundle_block::Refusal;
+use bundle_parts::Reader;
+use bundle_read::Contents;
+use bundle_writer::WriteRefusal;
 use character_reference::Names;
 use encode_byte::escaping_of;
+use lent::Writer;
 use machine::{Ending, Options};
-use std::io::Read;
+use std::io::{self, Read};
 
 // The most that a request may bring or ask for.
 const MOST_TEXT: usize = 262144;
@@ -23,10 +25,75 @@ const MOST_WORK: usize = 131072;
 // How many words are written at once.
 const WORDS_AT_ONCE: usize = 1024;
 
+// Before a call a buffer holds a byte that no answer leaves in it, or words of it.
+const UNTOLD: u8 = 0xA5;
+
+const UNTOLD_WORD: u32 = 0xA5A5_A5A5;
+
+// The calls that write a text.
+#[derive(Clone, Copy)]
+enum Text {
+    Escape,
+    Sanitize,
+    SanitizeLink,
+    SanitizeImage,
+    Identity,
+}
+
+// What a request asks for.
+#[derive(Clone, Copy)]
+enum Op {
+    Write(Text),
+    Check,
+    Build,
+    Read,
+    WriteBundle,
+    ReadParts,
+    List,
+    Normalize,
+}
+
+impl TryFrom<u8> for Op {
+    type Error = End;
+
+    fn try_from(op: u8) -> Result<Op, End> {
+        match op {
+            1 => Ok(Op::Write(Text::Escape)),
+            2 => Ok(Op::Write(Text::Sanitize)),
+            3 => Ok(Op::Write(Text::SanitizeLink)),
+            4 => Ok(Op::Write(Text::SanitizeImage)),
+            5 => Ok(Op::Write(Text::Identity)),
+            6 => Ok(Op::Check),
+            7 => Ok(Op::Build),
+            8 => Ok(Op::Read),
+            9 => Ok(Op::WriteBundle),
+            10 => Ok(Op::ReadParts),
+            11 => Ok(Op::List),
+            12 => Ok(Op::Normalize),
+            _ => Err(End::Request),
+        }
+    }
+}
+
+// Why the run ends.
+#[derive(Clone, Copy)]
+enum End {
+    // the input has ended, or not all could be read or written
+    Io,
+    // no call has this number, or a limit is passed
+    Request,
+}
+
+impl From<io::Error> for End {
+    fn from(_error: io::Error) -> End {
+        End::Io
+    }
+}
+
 // A request's first 32 bytes, read.
 #[derive(Clone, Copy)]
 struct Request {
-    op: u8,
+    op: Op,
     options: u8,
     ending: u8,
     names: u8,
@@ -54,41 +121,29 @@ fn serve(
     work: &mut [u8],
 ) {
     for _ in 0..u64::MAX {
-        if !serve_one(rt, stdin, input, answer, work) {
+        if serve_one(rt, stdin, input, answer, work).is_err() {
             return;
         }
     }
 }
 
-// Reads one request and answers it; false where the run ends.
+// Reads one request and answers it.
 fn serve_one(
     rt: &impl Print,
     stdin: &mut impl Read,
     input: &mut [u8],
     answer: &mut [u8],
     work: &mut [u8],
-) -> bool {
+) -> Result<(), End> {
     let mut header = [0u8; 32];
-    if stdin.read_exact(&mut header).is_err() {
-        return false;
-    }
-    let request = read_request(&header);
-    if !is_op(request.op) {
-        return false;
-    }
+    stdin.read_exact(&mut header)?;
+    let request = read_request(&header)?;
     answer_request(rt, stdin, request, input, answer, work)
 }
 
-fn is_op(op: u8) -> bool {
-    match op {
-        1..=12 => true,
-        _ => false,
-    }
-}
-
-fn read_request(header: &[u8; 32]) -> Request {
-    Request {
-        op: header[0],
+fn read_request(header: &[u8; 32]) -> Result<Request, End> {
+    Ok(Request {
+        op: Op::try_from(header[0])?,
         options: header[1],
         ending: header[2],
         names: header[3],
@@ -97,7 +152,7 @@ fn read_request(header: &[u8; 32]) -> Request {
         room: little::u32_at(header, 12) as usize,
         work: little::u32_at(header, 16) as usize,
         edition: little::u32_at(header, 20),
-    }
+    })
 }
 
 // Takes the parts of the buffers that the request needs. A request past a limit ends the run.
@@ -108,31 +163,16 @@ fn answer_request(
     input: &mut [u8],
     answer: &mut [u8],
     work: &mut [u8],
-) -> bool {
+) -> Result<(), End> {
     let text = r.text;
     let events = r.events;
     let room = r.room;
     let second = r.work;
-    if MOST_TEXT < text {
-        return false;
+    if MOST_TEXT < text || MOST_EVENTS < events || MOST_ROOM < room || MOST_WORK < second {
+        return Err(End::Request);
     }
-    if MOST_EVENTS < events {
-        return false;
-    }
-    if MOST_ROOM < room {
-        return false;
-    }
-    if MOST_WORK < second {
-        return false;
-    }
-    if input.len() < text + events {
-        return false;
-    }
-    if answer.len() < 24 + room {
-        return false;
-    }
-    if work.len() < second {
-        return false;
+    if input.len() < text + events || answer.len() < 24 + room || work.len() < second {
+        return Err(End::Request);
     }
     exchange(
         rt,
@@ -152,68 +192,65 @@ fn exchange(
     input: &mut [u8],
     answer: &mut [u8],
     work: &mut [u8],
-) -> bool {
-    if stdin.read_exact(input).is_err() {
-        return false;
-    }
-    let text = r.text;
-    if input.len() < text {
-        return false;
-    }
+) -> Result<(), End> {
+    stdin.read_exact(input)?;
+    let (text, events) = input.split_at_checked(r.text).ok_or(End::Request)?;
     if answer.len() < 24 {
-        return false;
+        return Err(End::Request);
     }
-    respond(rt, r, text, input, answer, work)
+    respond(rt, r, text, events, answer, work)
 }
 
 fn respond(
     rt: &impl Print,
     r: Request,
-    n: usize,
-    input: &[u8],
+    text: &[u8],
+    events: &[u8],
     answer: &mut [u8],
     work: &mut [u8],
-) -> bool
-    requires { (n ≤ length input.now) × (24 ≤ length answer.old) }
+) -> Result<(), End>
+    requires { 24 ≤ length answer.old }
 {
-    let op = r.op;
-    match op {
-        6 => check(rt, &input[0..n], &input[n..], answer),
-        7 => build(rt, r, &input[0..n], &input[n..], answer, work),
-        8 => read(rt, r, &input[0..n], answer, work),
-        9 => write_bundle(rt, r, &input[0..n], &input[n..], answer),
-        10 => read_parts(rt, r, &input[0..n], &input[n..], answer, work),
-        11 => list(rt, r, &input[0..n], &input[n..], answer),
-        12 => normalize(rt, r, &input[0..n], answer),
-        _ => write(rt, r, &input[0..n], answer),
+    match r.op {
+        Op::Write(call) => write(rt, r, call, text, answer),
+        Op::Check => check(rt, text, events, answer),
+        Op::Build => build(rt, r, text, events, answer, work),
+        Op::Read => read(rt, r, text, answer, work),
+        Op::WriteBundle => write_bundle(rt, r, text, events, answer),
+        Op::ReadParts => read_parts(rt, r, text, events, answer, work),
+        Op::List => list(rt, r, text, events, answer),
+        Op::Normalize => normalize(rt, r, text, answer),
     }
 }
 
 // The calls that write a text.
-fn write(rt: &impl Print, r: Request, text: &[u8], answer: &mut [u8]) -> bool
+fn write(rt: &impl Print, r: Request, call: Text, text: &[u8], answer: &mut [u8]) -> Result<(), End>
     requires { 24 ≤ length answer.old }
 {
-    let written = call(r, text, &mut answer[24..]);
+    let written = call_text(r.options, call, text, &mut answer[24..]);
     put_head(&mut answer[0..24], written_head(written, r.room));
-    rt.write_all(answer).is_ok()
+    rt.write_all(answer)?;
+    Ok(())
 }
 
 // The call that percent-encodes a URL: the visits are the second number.
-fn normalize(rt: &impl Print, r: Request, url: &[u8], answer: &mut [u8]) -> bool
+fn normalize(rt: &impl Print, r: Request, url: &[u8], answer: &mut [u8]) -> Result<(), End>
     requires { 24 ≤ length answer.old }
 {
     let normalized = call_normalize(url, &mut answer[24..]);
     put_head(&mut answer[0..24], normalized_head(normalized, r.room));
-    rt.write_all(answer).is_ok()
+    rt.write_all(answer)?;
+    Ok(())
 }
 
 // The checker, which is lent no buffer.
-fn check(rt: &impl Print, text: &[u8], events: &[u8], answer: &mut [u8]) -> bool
+fn check(rt: &impl Print, text: &[u8], events: &[u8], answer: &mut [u8]) -> Result<(), End>
     requires { 24 ≤ length answer.old }
 {
     let checked = page::check(text, events);
     put_head(&mut answer[0..24], checked_head(checked));
-    rt.write_all(&answer[0..24]).is_ok()
+    rt.write_all(&answer[0..24])?;
+    Ok(())
 }
 
 // The build, which is lent work bytes too.
@@ -224,34 +261,47 @@ fn build(
     events: &[u8],
     answer: &mut [u8],
     work: &mut [u8],
-) -> bool
+) -> Result<(), End>
     requires { 24 ≤ length answer.old }
 {
     let built = call_build(r, text, events, &mut answer[24..], work);
     let head = built_head(built, r.room, state_of(work));
     put_head(&mut answer[0..24], head);
-    rt.write_all(answer).is_ok()
+    rt.write_all(answer)?;
+    Ok(())
 }
 
 // The reader, which is lent two buffers: the second one's bytes follow the first's.
-fn read(rt: &impl Print, r: Request, bundle: &[u8], answer: &mut [u8], events: &mut [u8]) -> bool
+fn read(
+    rt: &impl Print,
+    r: Request,
+    bundle: &[u8],
+    answer: &mut [u8],
+    events: &mut [u8],
+) -> Result<(), End>
     requires { 24 ≤ length answer.old }
 {
     let answered = call_reader(bundle, &mut answer[24..], events);
     put_head(&mut answer[0..24], read_head(answered, r.room, r.work));
-    if rt.write_all(answer).is_err() {
-        return false;
-    }
-    rt.write_all(events).is_ok()
+    rt.write_all(answer)?;
+    rt.write_all(events)?;
+    Ok(())
 }
 
 // The writer.
-fn write_bundle(rt: &impl Print, r: Request, text: &[u8], events: &[u8], answer: &mut [u8]) -> bool
+fn write_bundle(
+    rt: &impl Print,
+    r: Request,
+    text: &[u8],
+    events: &[u8],
+    answer: &mut [u8],
+) -> Result<(), End>
     requires { 24 ≤ length answer.old }
 {
     let packed = call_writer(r.edition, text, events, &mut answer[24..]);
     put_head(&mut answer[0..24], packed_head(packed, r.room));
-    rt.write_all(answer).is_ok()
+    rt.write_all(answer)?;
+    Ok(())
 }
 
 // The reader in parts. While more is wanted there is nothing to show of the buffers.
@@ -262,28 +312,27 @@ fn read_parts(
     lengths: &[u8],
     answer: &mut [u8],
     events: &mut [u8],
-) -> bool
+) -> Result<(), End>
     requires { 24 ≤ length answer.old }
 {
     let reader = call_parts(r.options, bytes, lengths, &mut answer[24..], events);
     let so_far = page::bundle_so_far(reader);
     match so_far {
-        Progress::More => {
+        None => {
             put_head(&mut answer[0..24], more_head());
-            rt.write_all(&answer[0..24]).is_ok()
+            rt.write_all(&answer[0..24])?;
         }
-        Progress::Done(a) => {
+        Some(a) => {
             put_head(&mut answer[0..24], read_head(a, r.room, r.work));
-            if rt.write_all(answer).is_err() {
-                return false;
-            }
-            rt.write_all(events).is_ok()
+            rt.write_all(answer)?;
+            rt.write_all(events)?;
         }
     }
+    Ok(())
 }
 
 // A list of links, which takes and leaves words.
-fn list(rt: &impl Print, r: Request, text: &[u8], ends: &[u8], answer: &mut [u8]) -> bool
+fn list(rt: &impl Print, r: Request, text: &[u8], ends: &[u8], answer: &mut [u8]) -> Result<(), End>
     requires { 24 ≤ length answer.old }
 {
     let mut words = [0u32; 32768];
@@ -300,16 +349,16 @@ fn list_with(
     answer: &mut [u8],
     words: &mut [u32],
     lengths: &mut [u32],
-) -> bool
+) -> Result<(), End>
     requires { 24 ≤ length answer.old }
 {
     let places = r.work;
     if lengths.len() < places {
-        return false;
+        return Err(End::Request);
     }
     let count = read_words(ends, words);
     if words.len() < count {
-        return false;
+        return Err(End::Request);
     }
     list_words(
         rt,
@@ -329,7 +378,7 @@ fn list_words(
     ends: &[u32],
     answer: &mut [u8],
     lengths: &mut [u32],
-) -> bool
+) -> Result<(), End>
     requires { 24 ≤ length answer.old }
 {
     let listed = call_links(
@@ -343,55 +392,38 @@ fn list_words(
         &mut answer[0..24],
         listed_head(listed, r.room, lengths.len()),
     );
-    if rt.write_all(answer).is_err() {
-        return false;
-    }
+    rt.write_all(answer)?;
     write_words(rt, lengths)
 }
 
 // Words, little endian, as many as there is place for; how many they are.
 fn read_words(bytes: &[u8], words: &mut [u32]) -> usize {
-    let mut i = 0;
-    let mut at = 0;
-    while i < words.len() {
-        if bytes.len() - at < 4 {
-            return i;
-        }
-        words[i] = little::u32_at(bytes, at);
-        i += 1;
-        at += 4;
+    let (fours, _) = bytes.as_chunks::<4>();
+    for (word, four) in words.iter_mut().zip(fours) {
+        *word = u32::from_le_bytes(*four);
     }
-    i
+    fours.len().min(words.len())
 }
 
-fn write_words(rt: &impl Print, words: &[u32]) -> bool {
-    let mut bytes = [0u8; 4096];
-    write_through(rt, &mut bytes, words)
+// As many words at once as the bytes hold.
+fn write_words(rt: &impl Print, words: &[u32]) -> Result<(), End> {
+    let mut bytes = [0u8; 4 * WORDS_AT_ONCE];
+    for some in words.chunks(WORDS_AT_ONCE) {
+        let written = put_words(&mut bytes, some);
+        rt.write_all(&bytes[0..written])?;
+    }
+    Ok(())
 }
 
-// As many words at once as these bytes hold.
-fn write_through(rt: &impl Print, bytes: &mut [u8], words: &[u32]) -> bool {
-    let mut i = 0;
-    while i < words.len() {
-        let n = bundle_block::least(WORDS_AT_ONCE, words.len() - i);
-        if bytes.len() < 4 * n {
-            return false;
-        }
-        put_words(bytes, &words[i..i + n]);
-        if rt.write_all(&bytes[0..4 * n]).is_err() {
-            return false;
-        }
-        i += n;
+// How many bytes were written.
+fn put_words(bytes: &mut [u8], words: &[u32]) -> usize
+    ensures { result ≤ length bytes.new }
+{
+    let (fours, _) = bytes.as_chunks_mut::<4>();
+    for (four, word) in fours.iter_mut().zip(words) {
+        *four = word.to_le_bytes();
     }
-    true
-}
-
-fn put_words(bytes: &mut [u8], words: &[u32]) {
-    let mut i = 0;
-    while i < words.len() {
-        put_u32(bytes, 4 * i, call_links_answer::wide(words[i]));
-        i += 1;
-    }
+    4 * fours.len().min(words.len())
 }
 
 fn call_build(
@@ -400,7 +432,7 @@ fn call_build(
     events: &[u8],
     out: &mut [u8],
     work: &mut [u8],
-) -> call_build_answer::Built {
+) -> Result<usize, call_build_answer::Refusal> {
     fill_both(out, work);
     page::build(text, events, options_of(r), out, work)
 }
@@ -434,13 +466,18 @@ fn ending_of(ending: u8) -> Ending {
     }
 }
 
-fn call_reader(bundle: &[u8], text: &mut [u8], events: &mut [u8]) -> bundle_read::Answer {
+fn call_reader(bundle: &[u8], text: &mut [u8], events: &mut [u8]) -> Result<Contents, Refusal> {
     fill_both(text, events);
     page::read_bundle(bundle, text, events)
 }
 
-fn call_writer(edition: u32, text: &[u8], events: &[u8], out: &mut [u8]) -> Packed {
-    fill(out, 0xA5);
+fn call_writer(
+    edition: u32,
+    text: &[u8],
+    events: &[u8],
+    out: &mut [u8],
+) -> Result<usize, WriteRefusal> {
+    out.fill(UNTOLD);
     page::write_bundle(text, events, edition, out)
 }
 
@@ -479,13 +516,12 @@ fn feed_parts(
 ) -> Reader {
     let mut reader = first;
     let mut at = 0;
-    let mut listed = 0;
-    while 4 <= lengths.len() - listed {
-        let length = little::u32_at(lengths, listed) as usize;
-        let end = at + bundle_block::least(length, bytes.len() - at);
+    let (lengths, _) = lengths.as_chunks::<4>();
+    for length in lengths {
+        let length = u32::from_le_bytes(*length) as usize;
+        let end = at + length.min(bytes.len() - at);
         reader = page::feed_bundle(reader, &bytes[at..end], text, events);
         at = end;
-        listed += 4;
     }
     reader
 }
@@ -496,9 +532,9 @@ fn call_links(
     apostrophes: bool,
     out: &mut [u8],
     lengths: &mut [u32],
-) -> Listed {
-    fill(out, 0xA5);
-    fill_words(lengths, 0xA5A5_A5A5);
+) -> Result<usize, call_links_answer::Refusal> {
+    out.fill(UNTOLD);
+    lengths.fill(UNTOLD_WORD);
     page::sanitize_links(text, ends, apostrophes, out, lengths)
 }
 
@@ -507,26 +543,33 @@ fn has_apostrophes(options: u8) -> bool {
     options / 8 % 2 == 1
 }
 
-fn call(r: Request, text: &[u8], out: &mut [u8]) -> call_text_answer::Written {
-    fill(out, 0xA5);
-    let op = r.op;
-    let apostrophes = has_apostrophes(r.options);
-    match op {
-        1 => page::escape(text, escaping_of(r.options % 2 == 1, apostrophes), out),
-        2 => page::sanitize(text, apostrophes, out),
-        3 => page::sanitize_link(text, apostrophes, out),
-        4 => page::sanitize_image(text, apostrophes, out),
-        _ => page::identity(text, out),
+fn call_text(
+    options: u8,
+    call: Text,
+    text: &[u8],
+    out: &mut [u8],
+) -> Result<usize, call_text_answer::Refusal> {
+    out.fill(UNTOLD);
+    let apostrophes = has_apostrophes(options);
+    match call {
+        Text::Escape => page::escape(text, escaping_of(options % 2 == 1, apostrophes), out),
+        Text::Sanitize => page::sanitize(text, apostrophes, out),
+        Text::SanitizeLink => page::sanitize_link(text, apostrophes, out),
+        Text::SanitizeImage => page::sanitize_image(text, apostrophes, out),
+        Text::Identity => page::identity(text, out),
     }
 }
 
-fn call_normalize(url: &[u8], out: &mut [u8]) -> call_normalize::Normalized {
-    fill(out, 0xA5);
+fn call_normalize(
+    url: &[u8],
+    out: &mut [u8],
+) -> Result<call_normalize::Url, call_text_answer::Refusal> {
+    out.fill(UNTOLD);
     page::normalize(url, out)
 }
 
-// The answer's first 24 bytes.
-#[derive(Clone, Copy)]
+// The answer's first 24 bytes; a number that an answer doesn't have is 0.
+#[derive(Clone, Copy, Default)]
 struct Head {
     number: u32,
     value: usize,
@@ -545,36 +588,32 @@ fn put_head(out: &mut [u8], h: Head) {
     put_u32(out, 20, h.work);
 }
 
-fn written_head(w: call_text_answer::Written, room: usize) -> Head {
+fn written_head(w: Result<usize, call_text_answer::Refusal>, room: usize) -> Head {
     Head {
         number: page::number(w),
         value: page::value(w),
-        second: 0,
-        edition: 0,
         room,
-        work: 0,
+        ..Head::default()
     }
 }
 
-fn normalized_head(n: call_normalize::Normalized, room: usize) -> Head {
+fn normalized_head(n: Result<call_normalize::Url, call_text_answer::Refusal>, room: usize) -> Head {
     Head {
         number: call_normalize::number(n),
         value: call_normalize::value(n),
         second: call_normalize::visits(n),
-        edition: 0,
         room,
-        work: 0,
+        ..Head::default()
     }
 }
 
-fn listed_head(r: Listed, room: usize, places: usize) -> Head {
+fn listed_head(r: Result<usize, call_links_answer::Refusal>, room: usize, places: usize) -> Head {
     Head {
         number: call_links_answer::number(r),
         value: call_links_answer::value(r),
-        second: 0,
-        edition: 0,
         room,
         work: four_times(places),
+        ..Head::default()
     }
 }
 
@@ -586,29 +625,25 @@ fn four_times(words: usize) -> usize {
     4 * words
 }
 
-fn checked_head(c: check_list::Checked) -> Head {
+fn checked_head(c: Result<(), check_list::Refusal>) -> Head {
     Head {
         number: check_list::number(c),
         value: check_list::place(c),
-        second: 0,
-        edition: 0,
-        room: 0,
-        work: 0,
+        ..Head::default()
     }
 }
 
-fn built_head(b: call_build_answer::Built, room: usize, work: usize) -> Head {
+fn built_head(b: Result<usize, call_build_answer::Refusal>, room: usize, work: usize) -> Head {
     Head {
         number: call_build_answer::number(b),
         value: call_build_answer::value(b),
-        second: 0,
-        edition: 0,
         room,
         work,
+        ..Head::default()
     }
 }
 
-fn read_head(a: bundle_read::Answer, room: usize, work: usize) -> Head {
+fn read_head(a: Result<Contents, Refusal>, room: usize, work: usize) -> Head {
     Head {
         number: bundle_read::number(a),
         value: bundle_read::value(a),
@@ -619,14 +654,12 @@ fn read_head(a: bundle_read::Answer, room: usize, work: usize) -> Head {
     }
 }
 
-fn packed_head(p: Packed, room: usize) -> Head {
+fn packed_head(p: Result<usize, WriteRefusal>, room: usize) -> Head {
     Head {
         number: bundle_writer::number(p),
         value: bundle_writer::value(p),
-        second: 0,
-        edition: 0,
         room,
-        work: 0,
+        ..Head::default()
     }
 }
 
@@ -634,48 +667,21 @@ fn packed_head(p: Packed, room: usize) -> Head {
 fn more_head() -> Head {
     Head {
         number: 255,
-        value: 0,
-        second: 0,
-        edition: 0,
-        room: 0,
-        work: 0,
+        ..Head::default()
     }
 }
 
 fn put_u32(head: &mut [u8], at: usize, x: usize) {
-    little::put(head, at, little::U32, x);
+    let mut w = Writer { bytes: head, at };
+    little::put(&mut w, little::U32, x);
 }
 
 fn fill_both(one: &mut [u8], other: &mut [u8]) {
-    fill(one, 0xA5);
-    fill(other, 0xA5);
-}
-
-// Before a call a buffer holds a byte that no answer leaves in it.
-fn fill(s: &mut [u8], b: u8) {
-    let mut i = 0;
-    while i < s.len() {
-        s[i] = b;
-        i += 1;
-    }
-}
-
-fn fill_words(s: &mut [u32], x: u32) {
-    let mut i = 0;
-    while i < s.len() {
-        s[i] = x;
-        i += 1;
-    }
+    one.fill(UNTOLD);
+    other.fill(UNTOLD);
 }
 
 // 1 where every byte is zero, else 2.
 fn state_of(s: &[u8]) -> usize {
-    let mut i = 0;
-    while i < s.len() {
-        if s[i] != 0 {
-            return 2;
-        }
-        i += 1;
-    }
-    1
+    if s.iter().all(|b| *b == 0) { 1 } else { 2 }
 }

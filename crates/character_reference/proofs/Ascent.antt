@@ -1,24 +1,13 @@
 -- The laws of a packed table: each name lies in it, and comes before all that follow. Assumes nothing.
-use mathlib.Core.Path.{◌≡◌, refl}
-use mathlib.Core.Logic.{⊎_elim}
-use mathlib.Core.Bool.{true}
-use mathlib.Core.List.{List, [], ◌∷◌}
-use Prim.Native.Nat.{ℕ, zero, suc, ◌+◌, ◌-◌, ◌<◌, ◌≤◌}
-use native.Mathlib.Nat.{eq-or-lt_of_le}
-use native.Mathlib.Omega.{arith}
-use borrow.Author.Tests.{ltb-true, leb-true}
-use lib.Dec.{leb}
-use lib.ListN.{length, get_or}
+use Rattle.std.proofs.Common.{Ordering, Less, Equal, Greater, ◌≡◌, refl, ⊎_elim, true, List, [], ◌∷◌, ℕ, zero, suc, ◌+◌, ◌-◌, ◌<◌, ◌≤◌, eq-or-lt_of_le, arith, ltb-true, leb-true, leb, length, get_or}
 use Rattle.lent.proofs.Laws.{and_left, and_right}
-use Rattle.character_reference.specs.declared.Order.{Order}
-use Rattle.character_reference.specs.declared.Order.TheVariants.{Before, Same, Behind}
 use Rattle.character_reference.specs.Table.{order_of, is_before, is_ascending, name_at, Lies, unpacked_from, is_within, is_packed_from}
 use Rattle.character_reference.proofs.Compared.{before-trans}
 
-is-before : (o : Order) → is_before o ≡ true → o ≡ Before
-is-before Before p = refl
-is-before Same p = let z : ◌≡◌ {A = ℕ} 0 1 = cc in absurd (omega arith)
-is-before Behind p = let z : ◌≡◌ {A = ℕ} 0 1 = cc in absurd (omega arith)
+is-before : (o : Ordering) → is_before o ≡ true → o ≡ Less
+is-before Less p = refl
+is-before Equal p = let z : ◌≡◌ {A = ℕ} 0 1 = cc in absurd (omega arith)
+is-before Greater p = let z : ◌≡◌ {A = ℕ} 0 1 = cc in absurd (omega arith)
 
 module _ (packed starts : List ℕ) where
   abbrev name : ℕ → List ℕ
@@ -51,7 +40,7 @@ module _ (packed starts : List ℕ) where
 
   -- ---- names ascend
 
-  next-before : (codes : List ℕ) (k m : ℕ) → is_ascending (unpacked_from packed starts k codes) ≡ true → k ≤ m → m + 1 < k + length codes → order_of (name m) (name (m + 1)) ≡ Before
+  next-before : (codes : List ℕ) (k m : ℕ) → is_ascending (unpacked_from packed starts k codes) ≡ true → k ≤ m → m + 1 < k + length codes → order_of (name m) (name (m + 1)) ≡ Less
   unfolding is_ascending unpacked_from
   next-before [] k m up h l = absurd (omega arith)
   next-before (code ∷ []) k m up h l = absurd (omega arith)
@@ -62,12 +51,12 @@ module _ (packed starts : List ℕ) where
       (eq-or-lt_of_le h)
 
   module _ (codes : List ℕ) (up : is_ascending (unpacked_from packed starts 0 codes) ≡ true) where
-    before : (j n : ℕ) → j + 1 + n < length codes → order_of (name j) (name (j + 1 + n)) ≡ Before
+    before : (j n : ℕ) → j + 1 + n < length codes → order_of (name j) (name (j + 1 + n)) ≡ Less
     before j zero l = let e : j + 1 + 0 ≡ j + 1 = omega arith in rw e (next-before codes 0 j up (omega arith) (omega arith))
     before j (suc n) l =
         let e : j + 1 + suc n ≡ j + 1 + n + 1 = omega arith in
         rw e (before-trans (name j) (name (j + 1 + n)) (name (j + 1 + n + 1)) (before j n (omega arith)) (next-before codes 0 (j + 1 + n) up (omega arith) (omega arith)))
 
     -- each name comes before all that follow
-    pub ascending : (j k : ℕ) → j < k → k < length codes → order_of (name j) (name k) ≡ Before
+    pub ascending : (j k : ℕ) → j < k → k < length codes → order_of (name j) (name k) ≡ Less
     ascending j k h l = let e : j + 1 + (k - (j + 1)) ≡ k = omega arith in rw e at (before j (k - (j + 1)) (omega arith))

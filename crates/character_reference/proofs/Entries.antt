@@ -1,15 +1,9 @@
 -- The table, tested once as a whole: its names ascend, and each stands for a character of one to three bytes. Assumes nothing.
-use mathlib.Core.Path.{◌≡◌, refl}
-use mathlib.Core.Bool.{Bool, true, false, not, cond, ◌&&◌}
-use mathlib.Core.List.{List, [], ◌∷◌}
-use Prim.Native.Nat.{ℕ}
-use lib.Dec.{ltb}
+use Rattle.std.proofs.Common.{Option, Some, None, ◌≡◌, refl, Bool, true, false, not, cond, ◌&&◌, List, [], ◌∷◌, ℕ, ltb}
 use Rattle.lent.specs.Bytes.{same}
 use Rattle.lent.proofs.Laws.{and_left, and_right}
 use Rattle.character_reference.specs.declared.Names.{Names}
 use Rattle.character_reference.specs.declared.Names.TheVariants.{Html4, Html5}
-use Rattle.character_reference.specs.declared.Value.{Value}
-use Rattle.character_reference.specs.declared.Value.TheVariants.{Code, Broken}
 use Rattle.character_reference.specs.Names.{names}
 use Rattle.character_reference.specs.Reference.{is_replaced, lookup, names_of, named_of}
 use Rattle.character_reference.specs.Table.{order_of, is_ascending}
@@ -38,9 +32,9 @@ with-both-options Html4 = names-are-short
 with-both-options Html5 = names-are-short
 
 -- the rule at each entry
-abbrev pub Brief : Value → Type 0
-Brief (Code c) = is_short c ≡ true
-Brief Broken = Unit {0}
+abbrev pub Brief : Option ℕ → Type 0
+Brief (Some c) = is_short c ≡ true
+Brief None = Unit {0}
 
 pub either : {A : Type 0} (P : A → Type 0) (t : Bool) {x y : A} → P x → P y → P (cond t x y)
 either P true p q = p
@@ -50,7 +44,7 @@ found-short : (entries : List (List ℕ × ℕ)) (s : List ℕ) → are_short en
 unfolding lookup
 found-short [] s p = tt
 found-short (entry ∷ entries) s p =
-    either Brief (same s entry.0) {x = Code entry.1} {y = lookup entries s}
+    either Brief (same s entry.0) {x = Some entry.1} {y = lookup entries s}
     (and_left (is_short entry.1) (are_short entries) p)
     (found-short entries s (and_right (is_short entry.1) (are_short entries) p))
 

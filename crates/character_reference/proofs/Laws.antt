@@ -1,22 +1,17 @@
 -- The laws of character references: what the code's cases rest on, and what callers go by. Assumes nothing.
+use Rattle.std.specs.Prelude.{is_some as has_code}
+use Rattle.std.proofs.Common.{Option, Some, None, ◌≡◌, refl, sym, subst, ◌∙◌, Bool, true, false, not, ◌||◌, List, ℕ, ◌<◌, ◌≤◌, arith, lt-ltb, le-leb, ltb-false, leb-false, eqb, leb, ltb, lit≤, length}
 use Rattle.std.specs.Prelude.{if◌then◌else◌}
-use mathlib.Core.Path.{◌≡◌, refl, sym, subst, ◌∙◌}
-use mathlib.Core.Bool.{Bool, true, false, not, ◌||◌}
-use mathlib.Core.List.{List}
-use mathlib.Core.Option.{some}
-use Prim.Native.Nat.{ℕ, ◌<◌, ◌≤◌}
-use native.Mathlib.Omega.{arith}
-use borrow.Author.Tests.{lt-ltb, le-ltb, le-leb, ltb-false, leb-false, not-true}
-use lib.Dec.{eqb, leb, ltb, lit≤}
-use lib.ListN.{length}
+use Rattle.std.proofs.Math.Option.{some}
+use borrow.Author.Tests.{not-true}
 use Rattle.lent.specs.Bytes.{between}
-use Rattle.lent.specs.Fill.{Filled}
-use Rattle.lent.proofs.Laws.{none, and_left, and_right, or_left, or_right}
+use Rattle.lent.specs.declared.Writer.{Writer}
+use Rattle.lent.specs.Writer.{Writes}
+use Rattle.lent.proofs.Laws.{and_left, and_right, or_left, or_right}
+use Rattle.lent.proofs.Writing.{nothing}
 use Rattle.character_reference.specs.declared.Names.{Names}
 use Rattle.character_reference.specs.declared.Marker.{Marker}
 use Rattle.character_reference.specs.declared.Marker.TheVariants.{Named, Decimal, Hexadecimal}
-use Rattle.character_reference.specs.declared.Value.{Value}
-use Rattle.character_reference.specs.declared.Value.TheVariants.{Code, Broken}
 use Rattle.utf8.specs.Utf8.{char_of, replacement}
 use Rattle.character_reference.specs.Reference.{is_replaced, code_of, are_digits, from_digits, numeral_of, named_of, value_of, stands_for, reference_for, is_some, or_nothing}
 use Rattle.character_reference.specs.Written.{written_of}
@@ -49,9 +44,9 @@ module _ (c : ℕ) (kept : is_replaced c ≡ false) where
           let last : c ≤ 0x10FFFF = omega (arith, kept-in-range) in
           rw (e, inside 0xE000 0x10FFFF c (leb-false c 0xDFFF none) last)
 
-abbrev Kept : Value → Type 0
-Kept (Code c) = is_replaced c ≡ false
-Kept Broken = Unit {0}
+abbrev Kept : Option ℕ → Type 0
+Kept (Some c) = is_replaced c ≡ false
+Kept None = Unit {0}
 
 replacement-kept : is_replaced 0xFFFD ≡ false
 unfolding is_replaced
@@ -65,19 +60,19 @@ code-kept c = go (is_replaced c) refl
     go true e = rw e replacement-kept
     go false e = rw e e
 
-brief-kept : (v : Value) → Brief v → Kept v
-brief-kept (Code c) b = not-true (is_replaced c) (and_left (not (is_replaced c)) (ltb c 0x10000) b)
-brief-kept Broken b = tt
+brief-kept : (v : Option ℕ) → Brief v → Kept v
+brief-kept (Some c) b = not-true (is_replaced c) (and_left (not (is_replaced c)) (ltb c 0x10000) b)
+brief-kept None b = tt
 
 value-kept : (option : Names) (marker : Marker) (s : List ℕ) → Kept (value_of option marker s)
 unfolding value_of numeral_of
 value-kept option Named s = brief-kept (named_of option s) (named-short option s)
-value-kept option Decimal s = either Kept (are_digits 10 7 s) {x = Code (code_of (from_digits 10 s))} {y = Broken} (code-kept (from_digits 10 s)) tt
-value-kept option Hexadecimal s = either Kept (are_digits 16 6 s) {x = Code (code_of (from_digits 16 s))} {y = Broken} (code-kept (from_digits 16 s)) tt
+value-kept option Decimal s = either Kept (are_digits 10 7 s) {x = Some (code_of (from_digits 10 s))} {y = None} (code-kept (from_digits 10 s)) tt
+value-kept option Hexadecimal s = either Kept (are_digits 16 6 s) {x = Some (code_of (from_digits 16 s))} {y = None} (code-kept (from_digits 16 s)) tt
 
 -- ---- a value, by its marker
 
-module _ (option : Names) (marker : Marker) (s : List ℕ) (v : Value) where
+module _ (option : Names) (marker : Marker) (s : List ℕ) (v : Option ℕ) where
   pub by_name : marker ≡ Named → v ≡ named_of option s → v ≡ value_of option marker s
   unfolding value_of
   by_name m e = rw (m, e)
@@ -90,19 +85,16 @@ module _ (option : Names) (marker : Marker) (s : List ℕ) (v : Value) where
   unfolding value_of
   by-hexadecimal-digits m e = rw (m, e)
 
-  pub is_none : v ≡ value_of option marker s → v ≡ Broken → false ≡ is_some (reference_for option marker s)
+  -- it is one exactly where its value is some code
+  pub is-one-or-none : {x : Bool} → v ≡ value_of option marker s → x ≡ has_code v → x ≡ is_some (reference_for option marker s)
   unfolding reference_for
-  is_none e h = rw (← e, h)
+  is-one-or-none e p = p ∙ rw (← e) (elim v as (λ w. has_code w ≡ is_some (stands_for w)) [ Some c ↦ refl | None ↦ refl ])
 
-  pub writes_nothing : (d : List ℕ) (at : ℕ) → v ≡ value_of option marker s → v ≡ Broken → Filled d at (or_nothing (reference_for option marker s)) d at
+  pub writes_nothing : {u : Writer} → v ≡ value_of option marker s → v ≡ None → Writes (or_nothing (reference_for option marker s)) u u
   unfolding reference_for
-  writes_nothing d at e h = rw (← e, h) (none d at)
+  writes_nothing e h = rw (← e, h) nothing
 
-  module _ (c : ℕ) (e : v ≡ value_of option marker s) (h : v ≡ Code c) where
-    pub is_one : true ≡ is_some (reference_for option marker s)
-    unfolding reference_for
-    is_one = rw (← e, h)
-
+  module _ (c : ℕ) (e : v ≡ value_of option marker s) (h : v ≡ Some c) where
     -- the code of a value is none of the numbers replaced: it is a character's
     pub is-kept : is_replaced c ≡ false
     is-kept = subst Kept (sym e ∙ h) (value-kept option marker s)
@@ -114,9 +106,9 @@ module _ (option : Names) (marker : Marker) (s : List ℕ) (v : Value) where
     pub is-scalar : (ltb c 0xD800 || between 0xE000 0x10FFFF c) ≡ true
     is-scalar = kept-scalar c is-kept
 
-    pub writes : (d f : List ℕ) (at r : ℕ) → Filled d at (written_of c) f r → Filled d at (or_nothing (reference_for option marker s)) f r
+    pub writes : {u w : Writer} → Writes (written_of c) u w → Writes (or_nothing (reference_for option marker s)) u w
     unfolding reference_for written_of
-    writes d f at r p = rw (← e, h) (rw (lt-ltb c 0x110000 in-range) at p)
+    writes p = rw (← e, h) (rw (lt-ltb c 0x110000 in-range) at p)
 
 -- ---- how long a character is
 
@@ -136,18 +128,18 @@ pub short-reference : (option : Names) (marker : Marker) (s b : List ℕ) → re
 unfolding reference_for
 short-reference option marker s b p = go (value_of option marker s) p
   where
-    go : (v : Value) → stands_for v ≡ some b → Short b
-    go (Code c) q = let e : char_of c ≡ b = cc in rw e at (short c)
-    go Broken q = let z : ◌≡◌ {A = ℕ} 0 1 = cc in absurd (omega arith)
+    go : (v : Option ℕ) → stands_for v ≡ some b → Short b
+    go (Some c) q = let e : char_of c ≡ b = cc in rw e at (short c)
+    go None q = let z : ◌≡◌ {A = ℕ} 0 1 = cc in absurd (omega arith)
 
 -- so a value writes at most four bytes
 pub at-most-four : (option : Names) (marker : Marker) (s : List ℕ) → length (or_nothing (reference_for option marker s)) ≤ 4
 unfolding reference_for
 at-most-four option marker s = go (value_of option marker s)
   where
-    go : (v : Value) → length (or_nothing (stands_for v)) ≤ 4
-    go (Code c) = (short c).few_bytes
-    go Broken = lit≤ tt
+    go : (v : Option ℕ) → length (or_nothing (stands_for v)) ≤ 4
+    go (Some c) = (short c).few_bytes
+    go None = lit≤ tt
 
 -- and a name at most three
 three : (c : ℕ) → ltb c 0x10000 ≡ true → length (char_of c) ≤ 3
@@ -158,9 +150,9 @@ pub name-at-most-three : (option : Names) (s : List ℕ) → length (or_nothing 
 unfolding reference_for value_of
 name-at-most-three option s = go (named_of option s) (named-short option s)
   where
-    go : (v : Value) → Brief v → length (or_nothing (stands_for v)) ≤ 3
-    go (Code c) b = three c (and_right (not (is_replaced c)) (ltb c 0x10000) b)
-    go Broken b = lit≤ tt
+    go : (v : Option ℕ) → Brief v → length (or_nothing (stands_for v)) ≤ 3
+    go (Some c) b = three c (and_right (not (is_replaced c)) (ltb c 0x10000) b)
+    go None b = lit≤ tt
 
 -- and a number the character with its code, or U+FFFD
 pub character : (c : ℕ) → char_of (code_of c) ≡ (if is_replaced c then replacement else char_of c)

@@ -1,6 +1,5 @@
 pub mod Put
 pub mod Ascent
-pub mod Beside
 pub mod Compared
 pub mod Entries
 pub mod Laws

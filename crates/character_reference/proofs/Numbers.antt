@@ -1,21 +1,13 @@
 -- The laws of numbers and digits: what the code's cases rest on. Assumes nothing.
+use Rattle.std.proofs.Common.{Option, Some, None, ◌≡◌, sym, Bool, true, false, List, ℕ, ◌+◌, ◌-◌, ◌*◌, ◌^◌, ◌<◌, ◌≤◌, pow-suc, mul-le-mul, le_trans, le_of_eq, suc-mul, add-one, arith, lt-ltb, le-ltb, le-leb, ne_eqb, leb, lit<, length, drop, get_or, drop_of_length-le}
 use Rattle.std.specs.Prelude.{if◌then◌else◌}
-use mathlib.Core.Path.{◌≡◌, sym}
-use mathlib.Core.Bool.{Bool, true, false, and-false, or-true}
-use mathlib.Core.List.{List}
-use Prim.Native.Nat.{ℕ, ◌+◌, ◌-◌, ◌*◌, ◌^◌, ◌<◌, ◌≤◌}
-use native.Mathlib.Nat.{pow-suc, pow-le-pow_right, mul-le-mul, le_trans, le_of_eq, suc-mul}
-use native.Mathlib.Numerals.{add-one}
-use native.Mathlib.Omega.{arith}
-use borrow.Author.Tests.{lt-ltb, le-ltb, le-leb, lt-leb, ne_eqb}
-use lib.Dec.{leb, lit<}
+use Rattle.std.proofs.Math.Bool.{and-false, or-true}
+use Rattle.std.proofs.Math.Nat.{pow-le-pow_right}
+use borrow.Author.Tests.{lt-leb}
 use mir.Val.{Fits}
 use mir.Syntax.{w32}
-use lib.ListN.{length, drop, get_or, drop_of_length-le}
 use Rattle.lent.specs.Bytes.{between, all}
 use Rattle.lent.proofs.Laws.{next}
-use Rattle.character_reference.specs.declared.Value.{Value}
-use Rattle.character_reference.specs.declared.Value.TheVariants.{Code, Broken}
 use Rattle.character_reference.specs.Reference.{is_replaced, code_of, digit_value, is_digit_of, number_from, numeral_of}
 
 -- ---- ranges
@@ -118,15 +110,15 @@ pub ruleset digits = (digit, upper-case, lower-case, no-digit₁, no-digit₂, n
 -- ---- digits, from the place i on
 
 -- what the digits left say, behind those that say n
-abbrev pub numeral_from : ℕ → ℕ → List ℕ → Value
-numeral_from base n s = if all (is_digit_of base) s then Code (code_of (number_from base n s)) else Broken
+abbrev pub numeral_from : ℕ → ℕ → List ℕ → Option ℕ
+numeral_from base n s = if all (is_digit_of base) s then Some (code_of (number_from base n s)) else None
 
 module _ (base most : ℕ) (s : List ℕ) where
-  pub none-there : length s < 1 → Broken ≡ numeral_of base most s
+  pub none-there : length s < 1 → None ≡ numeral_of base most s
   unfolding numeral_of
   none-there h = rw (below 1 most (length s) h)
 
-  pub too_many : most < length s → Broken ≡ numeral_of base most s
+  pub too_many : most < length s → None ≡ numeral_of base most s
   unfolding numeral_of
   too_many h = rw (above 1 most (length s) h)
 
@@ -134,14 +126,14 @@ module _ (base most : ℕ) (s : List ℕ) where
   unfolding numeral_of
   all_left h k = rw (inside 1 most (length s) h k)
 
-module _ (base n i x : ℕ) (s : List ℕ) (v : Value) (h : i < length s) (e : x ≡ digit_value (get_or s i 0)) (left : numeral_from base n (drop i s) ≡ v) where
-  pub no_digit : base ≤ x → Broken ≡ v
+module _ (base n i x : ℕ) (s : List ℕ) (v : Option ℕ) (h : i < length s) (e : x ≡ digit_value (get_or s i 0)) (left : numeral_from base n (drop i s) ≡ v) where
+  pub no_digit : base ≤ x → None ≡ v
   no_digit k = rw (next s i h, ← e, le-ltb x base k) at left
 
   pub next-digit : x < base → numeral_from base (n * base + x) (drop (i + 1) s) ≡ v
   next-digit k = rw e (rw (next s i h, lt-ltb (digit_value (get_or s i 0)) base (rw e at k)) at left)
 
-pub no-digit-left : (base n i r : ℕ) (s : List ℕ) (v : Value) → length s ≤ i → r ≡ code_of n → numeral_from base n (drop i s) ≡ v → Code r ≡ v
+pub no-digit-left : (base n i r : ℕ) (s : List ℕ) (v : Option ℕ) → length s ≤ i → r ≡ code_of n → numeral_from base n (drop i s) ≡ v → Some r ≡ v
 no-digit-left base n i r s v h e left = rw e (rw (drop_of_length-le s h) at left)
 
 -- up to seven digits, of a base up to 16, say less than 2 ^ 32

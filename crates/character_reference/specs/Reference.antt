@@ -1,13 +1,11 @@
 -- Character references, RULES R13 (character_reference.rs): what the value of one stands for. Assumes nothing.
-use Rattle.std.specs.Prelude.{Bool, true, false, ◌&&◌, ◌||◌, List, [], ◌∷◌, ℕ, ◌+◌, ◌-◌, ◌*◌, ltb, leb, eqb, length, if◌then◌else◌}
-use Rattle.std.proofs.Math.Option.{Option, none, some}
+use Rattle.std.specs.Prelude.{Option, Some, None, Bool, true, false, ◌&&◌, ◌||◌, List, [], ◌∷◌, ℕ, ◌+◌, ◌-◌, ◌*◌, ltb, leb, eqb, length, if◌then◌else◌}
+use Rattle.std.proofs.Math.Option.{Option as Maybe, none, some}
 use Rattle.lent.specs.Bytes.{bytes, between, same, all}
 use Rattle.character_reference.specs.declared.Marker.{Marker}
 use Rattle.character_reference.specs.declared.Marker.TheVariants.{Named, Decimal, Hexadecimal}
 use Rattle.character_reference.specs.declared.Names.{Names}
 use Rattle.character_reference.specs.declared.Names.TheVariants.{Html4, Html5}
-use Rattle.character_reference.specs.declared.Value.{Value}
-use Rattle.character_reference.specs.declared.Value.TheVariants.{Code, Broken}
 use Rattle.character_reference.specs.Names.{names}
 use Rattle.utf8.specs.Utf8.{char_of}
 unfoldable pub use Rattle.character_reference.specs.Written.{written_of}
@@ -42,49 +40,49 @@ number_from base n (b ∷ bs) = number_from base (n * base + digit_value b) bs
 abbrev pub from_digits : ℕ → List ℕ → ℕ
 from_digits base s = number_from base 0 s
 
-unfoldable pub numeral_of : ℕ → ℕ → List ℕ → Value
-numeral_of base most s = if are_digits base most s then Code (code_of (from_digits base s)) else Broken
+unfoldable pub numeral_of : ℕ → ℕ → List ℕ → Option ℕ
+numeral_of base most s = if are_digits base most s then Some (code_of (from_digits base s)) else None
 
 -- ---- names
 
 -- the first entry of a table that has this name
-unfoldable pub lookup : List (List ℕ × ℕ) → List ℕ → Value
-lookup [] s = Broken
-lookup (entry ∷ entries) s = if same s entry.0 then Code entry.1 else lookup entries s
+unfoldable pub lookup : List (List ℕ × ℕ) → List ℕ → Option ℕ
+lookup [] s = None
+lookup (entry ∷ entries) s = if same s entry.0 then Some entry.1 else lookup entries s
 
 -- by the names option: HTML 4.01 has two of them otherwise
 unfoldable pub names_of : Names → List (List ℕ × ℕ)
 names_of Html4 = (bytes "lang", 0x2329) ∷ (bytes "rang", 0x232A) ∷ names
 names_of Html5 = names
 
-unfoldable pub named_of : Names → List ℕ → Value
+unfoldable pub named_of : Names → List ℕ → Option ℕ
 named_of option s = lookup (names_of option) s
 
 -- ---- references
 
--- the code point of a value, by the newest marker before it; Broken where the slice breaks its rule
-unfoldable pub value_of : Names → Marker → List ℕ → Value
+-- the code point of a value, by the newest marker before it; None where the slice breaks its rule
+unfoldable pub value_of : Names → Marker → List ℕ → Option ℕ
 value_of option Named s = named_of option s
 value_of option Decimal s = numeral_of 10 7 s
 value_of option Hexadecimal s = numeral_of 16 6 s
 
-abbrev pub stands_for : Value → Option (List ℕ)
-stands_for (Code c) = some (char_of c)
-stands_for Broken = none
+abbrev pub stands_for : Option ℕ → Maybe (List ℕ)
+stands_for (Some c) = some (char_of c)
+stands_for None = none
 
 -- the bytes that a value stands for; none where the slice breaks its rule
-unfoldable pub reference_for : Names → Marker → List ℕ → Option (List ℕ)
+unfoldable pub reference_for : Names → Marker → List ℕ → Maybe (List ℕ)
 reference_for option marker s = stands_for (value_of option marker s)
 
 -- and as the crate has them. Whether there are any is the same for both options
-abbrev pub reference_of : Marker → List ℕ → Option (List ℕ)
+abbrev pub reference_of : Marker → List ℕ → Maybe (List ℕ)
 reference_of marker s = reference_for Html5 marker s
 
-abbrev pub is_some : Option (List ℕ) → Bool
+abbrev pub is_some : Maybe (List ℕ) → Bool
 is_some none = false
 is_some (some s) = true
 
 -- the bytes that are written: where there are none, nothing
-abbrev pub or_nothing : Option (List ℕ) → List ℕ
+abbrev pub or_nothing : Maybe (List ℕ) → List ℕ
 or_nothing none = []
 or_nothing (some s) = s

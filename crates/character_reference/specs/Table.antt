@@ -1,20 +1,20 @@
 -- How the code holds a table of names, and how it compares them: words of private functions alone. Assumes nothing.
 use Rattle.std.specs.Prelude.{Bool, true, false, ◌&&◌, List, [], ◌∷◌, ℕ, ◌+◌, ◌-◌, ◌<◌, ◌≤◌, ltb, leb, length, get_or, take, drop, if◌then◌else◌}
-use Rattle.character_reference.specs.declared.Order.{Order}
-use Rattle.character_reference.specs.declared.Order.TheVariants.{Before, Same, Behind}
+use Rattle.std.specs.declared.cmp.Ordering.{Ordering}
+use Rattle.std.specs.declared.cmp.Ordering.TheVariants.{Less, Equal, Greater}
 
 -- ---- in which order
 
-unfoldable pub order_of : List ℕ → List ℕ → Order
-order_of [] [] = Same
-order_of [] (y ∷ t) = Before
-order_of (x ∷ s) [] = Behind
-order_of (x ∷ s) (y ∷ t) = if ltb x y then Before else (if ltb y x then Behind else order_of s t)
+unfoldable pub order_of : List ℕ → List ℕ → Ordering
+order_of [] [] = Equal
+order_of [] (y ∷ t) = Less
+order_of (x ∷ s) [] = Greater
+order_of (x ∷ s) (y ∷ t) = if ltb x y then Less else (if ltb y x then Greater else order_of s t)
 
-abbrev pub is_before : Order → Bool
-is_before Before = true
-is_before Same = false
-is_before Behind = false
+abbrev pub is_before : Ordering → Bool
+is_before Less = true
+is_before Equal = false
+is_before Greater = false
 
 -- each name comes before the next
 unfoldable pub is_ascending : List (List ℕ × ℕ) → Bool

@@ -2,47 +2,41 @@
 #![tactic(auto)]
 
 ghost use Rattle.std.specs.Prelude.{◌≡◌, ◌≤◌, true};
-ghost use Rattle.lent.specs.Fill.{Filled};
+ghost use Rattle.lent.specs.Writer.{Writes};
 ghost use Rattle.utf8.specs.Utf8.{tail};
 ghost use Rattle.character_reference.specs.Written.{written_of};
 ghost use Rattle.lent.specs.Bytes.{same};
 ghost use Rattle.character_reference.specs.Reference.{is_replaced, code_of, digit_value, numeral_of, lookup, named_of, value_of, reference_of, reference_for, is_some, or_nothing};
 ghost use Rattle.character_reference.specs.Table.{order_of, name_at, Lies, is_packed_from, unpacked_from, is_ascending};
 
+use lent::Writer;
+use std::cmp::Ordering;
+
 mod table;
 
 // ---- a character, written in UTF-8
 
-// Appends the character with the code `c`, or U+FFFD where there is none.
-pub fn put_char(out: &mut [u8], at: usize, c: u32) -> usize
-    ensures { Filled out.old at (written_of c) out.new result }
+// Appends the character with the code `c`, or U+FFFD where there is none. Not by `char::encode_utf8`: a surrogate, which is no
+// `char`, has three bytes here.
+pub fn put_char(out: &mut Writer, c: u32)
+    ensures { Writes (written_of c) out.old out.new }
 {
-    if c < 0x80 {
-        return lent::put(out, at, c as u8);
-    }
-    if c < 0x800 {
-        return lent::put_all(out, at, &[(0xC0 + c / 64) as u8, tail_of(c)]);
-    }
-    if c < 0x10000 {
-        return lent::put_all(
-            out,
-            at,
-            &[(0xE0 + c / 4096) as u8, tail_of(c / 64), tail_of(c)],
-        );
-    }
-    if c < 0x110000 {
-        return lent::put_all(
-            out,
-            at,
-            &[
+    match c {
+        0..0x80 => out.put(c as u8),
+        0x80..0x800 => out.put_all(&[(0xC0 + c / 64) as u8, tail_of(c)]),
+        0x800..0x10000 => {
+            out.put_all(&[(0xE0 + c / 4096) as u8, tail_of(c / 64), tail_of(c)]);
+        }
+        0x10000..0x110000 => {
+            out.put_all(&[
                 (0xF0 + c / 262144) as u8,
                 tail_of(c / 4096),
                 tail_of(c / 64),
                 tail_of(c),
-            ],
-        );
+            ]);
+        }
+        _ => out.put_all(&[0xEF, 0xBF, 0xBD]),
     }
-    lent::put_all(out, at, &[0xEF, 0xBF, 0xBD])
 }
 
 // A byte that goes on a character, with the lowest six bits of `n`.
@@ -69,13 +63,6 @@ pub enum Names {
     Html5,
 }
 
-// What a value stands for: a code point, or nothing, since the slice breaks its rule.
-#[derive(Clone, Copy)]
-pub enum Value {
-    Code(u32),
-    Broken,
-}
-
 // Whether a number gives U+FFFD.
 fn is_replaced(c: u32) -> bool
     ensures { result ≡ is_replaced c }
@@ -97,7 +84,7 @@ fn code_of(c: u32) -> u32
     c
 }
 
-// What a digit of base 10 or 16 is worth; 16 for any other byte.
+// What a digit of base 10 or 16 is worth; 16 for any other byte. Not `char::to_digit`, which asks for a base above 1.
 fn digit_value(b: u8) -> u32
     ensures { result ≡ digit_value b }
 {
@@ -110,85 +97,40 @@ fn digit_value(b: u8) -> u32
 }
 
 // What one to `most` digits of a base stand for.
-fn numeral_of(s: &[u8], base: u32, most: usize) -> Value
+fn numeral_of(s: &[u8], base: u32, most: usize) -> Option<u32>
     requires { (base ≤ 16) × (most ≤ 7) }
     ensures { result ≡ numeral_of base most s.now }
 {
     if s.len() < 1 {
-        return Value::Broken;
+        return None;
     }
     if most < s.len() {
-        return Value::Broken;
+        return None;
     }
     let mut n: u32 = 0;
-    let mut i = 0;
-    while i < s.len() {
-        let v = digit_value(s[i]);
+    for b in s {
+        let v = digit_value(*b);
         if base <= v {
-            return Value::Broken;
+            return None;
         }
         n = n * base + v;
-        i += 1;
     }
-    Value::Code(code_of(n))
-}
-
-// Where a byte string comes beside another.
-#[derive(Clone, Copy)]
-enum Order {
-    Before,
-    Same,
-    Behind,
-}
-
-// Where `s` comes beside `t`, byte by byte.
-fn order_of(s: &[u8], t: &[u8]) -> Order
-    ensures { result ≡ order_of s.now t.now }
-{
-    let mut i = 0;
-    while i < s.len() {
-        if t.len() <= i {
-            return Order::Behind;
-        }
-        let x = s[i];
-        let y = t[i];
-        if x < y {
-            return Order::Before;
-        }
-        if y < x {
-            return Order::Behind;
-        }
-        i += 1;
-    }
-    if i < t.len() {
-        return Order::Before;
-    }
-    Order::Same
-}
-
-// Whether two byte strings are the same.
-fn is_same(s: &[u8], t: &[u8]) -> bool
-    ensures { result ≡ same s.now t.now }
-{
-    match order_of(s, t) {
-        Order::Before => false,
-        Order::Same => true,
-        Order::Behind => false,
-    }
+    Some(code_of(n))
 }
 
 // Where a name comes beside the name `k` of a packed table.
-fn order_at(s: &[u8], packed: &[u8], starts: &[u16], k: usize) -> Order
+fn order_at(s: &[u8], packed: &[u8], starts: &[u16], k: usize) -> Ordering
     requires { Lies packed.now starts.now k }
     ensures { result ≡ order_of s.now (name_at packed.now starts.now k) }
 {
     let from = starts[k] as usize;
     let to = starts[k + 1] as usize;
-    order_of(s, &packed[from..to])
+    s.cmp(&packed[from..to])
 }
 
-// The entry of a packed table that has this name, by halving: it lies from `low` up to `high`.
-fn look_up(s: &[u8], packed: &[u8], starts: &[u16], codes: &[u16]) -> Value
+// The entry of a packed table that has this name, by halving: it lies from `low` up to `high`. Not by `binary_search_by`, whose
+// closure sees one start: a name ends at the next. Packed, since the compiler builds a table anew at each look-up.
+fn look_up(s: &[u8], packed: &[u8], starts: &[u16], codes: &[u16]) -> Option<u32>
     requires packed { is_packed_from packed.now starts.now 0 codes.now ≡ true }
     requires ascending { is_ascending (unpacked_from packed.now starts.now 0 codes.now) ≡ true }
     ensures { result ≡ lookup (unpacked_from packed.now starts.now 0 codes.now) s.now }
@@ -198,44 +140,36 @@ fn look_up(s: &[u8], packed: &[u8], starts: &[u16], codes: &[u16]) -> Value
     while low < high {
         let k = low + (high - low) / 2;
         match order_at(s, packed, starts, k) {
-            Order::Same => {
-                return Value::Code(codes[k] as u32);
-            }
-            Order::Before => {
-                high = k;
-                continue;
-            }
-            Order::Behind => {
-                low = k + 1;
-                continue;
-            }
+            Ordering::Equal => return Some(u32::from(codes[k])),
+            Ordering::Less => high = k,
+            Ordering::Greater => low = k + 1,
         }
     }
-    Value::Broken
+    None
 }
 
 // What a name stands for in HTML5.
-fn named_5(s: &[u8]) -> Value
+fn named_5(s: &[u8]) -> Option<u32>
     ensures { result ≡ named_of Names.Html5 s.now }
 {
     look_up(s, &table::NAMES, &table::STARTS, &table::CODES)
 }
 
 // And in HTML 4.01, which has two of them otherwise.
-fn named_4(s: &[u8]) -> Value
+fn named_4(s: &[u8]) -> Option<u32>
     ensures { result ≡ named_of Names.Html4 s.now }
 {
-    if is_same(s, b"lang") {
-        return Value::Code(0x2329);
+    if s == b"lang".as_slice() {
+        return Some(0x2329);
     }
-    if is_same(s, b"rang") {
-        return Value::Code(0x232A);
+    if s == b"rang".as_slice() {
+        return Some(0x232A);
     }
     named_5(s)
 }
 
 // What a name stands for.
-fn named_of(names: Names, s: &[u8]) -> Value
+fn named_of(names: Names, s: &[u8]) -> Option<u32>
     ensures { result ≡ named_of names s.now }
 {
     match names {
@@ -245,7 +179,7 @@ fn named_of(names: Names, s: &[u8]) -> Value
 }
 
 // The code point of a value, or that the slice breaks its rule.
-pub fn value_of(names: Names, marker: Marker, s: &[u8]) -> Value
+pub fn value_of(names: Names, marker: Marker, s: &[u8]) -> Option<u32>
     ensures { result ≡ value_of names marker s.now }
 {
     match marker {
@@ -259,18 +193,14 @@ pub fn value_of(names: Names, marker: Marker, s: &[u8]) -> Value
 pub fn is_reference(marker: Marker, s: &[u8]) -> bool
     ensures { result ≡ is_some (reference_of marker s.now) }
 {
-    match value_of(Names::Html5, marker, s) {
-        Value::Code(_) => true,
-        Value::Broken => false,
-    }
+    value_of(Names::Html5, marker, s).is_some()
 }
 
 // Appends what a value stands for; nothing where it breaks its slice's rule.
-pub fn put_reference(out: &mut [u8], at: usize, names: Names, marker: Marker, s: &[u8]) -> usize
-    ensures { Filled out.old at (or_nothing (reference_for names marker s.now)) out.new result }
+pub fn put_reference(out: &mut Writer, names: Names, marker: Marker, s: &[u8])
+    ensures { Writes (or_nothing (reference_for names marker s.now)) out.old out.new }
 {
-    match value_of(names, marker, s) {
-        Value::Code(c) => put_char(out, at, c),
-        Value::Broken => at,
+    if let Some(c) = value_of(names, marker, s) {
+        put_char(out, c);
     }
 }

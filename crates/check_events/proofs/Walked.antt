@@ -1,44 +1,37 @@
 -- The loop's invariant, and what each event does to it. Assumes nothing.
-use mathlib.Core.Path.{◌≡◌, refl, sym, ◌∙◌}
-use mathlib.Core.Bool.{Bool, true, false, not, true≢false}
-use mathlib.Core.List.{List}
-use Prim.Native.Nat.{ℕ, ◌+◌, ◌/◌, ◌<◌, ◌≤◌}
-use native.Mathlib.Omega.{arith}
-use borrow.Author.Count.{below_more}
+use Rattle.std.proofs.Common.{◌≡◌, refl, sym, ◌∙◌, Bool, true, false, not, true≢false, List, ℕ, ◌+◌, ◌/◌, ◌<◌, ◌≤◌, arith, below_more, length, Ok, Err, Some, None}
 use borrow.Author.Tests.{not-true, not-false}
-use lib.ListN.{length}
 use Rattle.event.specs.declared.Event.{Event}
 use Rattle.event.specs.Event.{is_enter, event_at, events_of}
 use Rattle.check_nesting.proofs.Laws.{Inv, all_closed, left_open}
-use Rattle.check_fields.specs.declared.Fields.TheVariants as F
+use Rattle.check_nesting.specs.declared.stack.Nesting.{Nesting}
 use Rattle.check_fields.specs.First.{first_break}
 use Rattle.check_fields.specs.Fields.{fields_hold, fields_of}
 use Rattle.check_fields.proofs.First.{break-next, break-here, break-none}
-use Rattle.check_fields.proofs.Cases.{answer_at, answer-yes}
 use Rattle.check_slices.specs.Slices.{nothing_seen, with_sequence, seen_behind, event_holds, slices_of}
 use Rattle.check_slices.specs.Counts.{none_counted, Few, counted_behind, count_holds, counts_of}
 use Rattle.check_slices.proofs.Laws.{enter-holds, behind-heading}
 use Rattle.check_events.specs.declared.Slicing.{Slicing}
 use Rattle.check_events.specs.declared.Counting.{Counting}
-use Rattle.check_events.specs.declared.Passed.{Passed}
-use Rattle.check_events.specs.declared.Looked.{Looked}
-use Rattle.check_events.specs.declared.Looked.TheVariants.{Field, Nested, Through}
-use Rattle.check_events.specs.Looked.{is_use, Passes, Looks}
-use Rattle.check_events.specs.Walk.{Step, Unsliced, Uncounted, IdleEnter, IdleExit, FieldsTo, Answers, Ends}
+use Rattle.check_events.specs.declared.Fault.TheVariants.{Nested}
+use Rattle.check_events.specs.Looked.{is_use, Looks}
+use Rattle.check_events.specs.Walk.{Step, Unsliced, Uncounted, IdleEnter, IdleExit, FieldsTo}
 use Rattle.check_events.proofs.Idle.{unsliced-enter, uncounted-exit, uncounted-heading}
 use Rattle.check_events.proofs.Follow.{Follows, follow-start, follow-idle, follow-step, follow-end}
 
 -- ---- fields
 
 module _ (text b : List ℕ) (i count : ℕ) (w : FieldsTo text b i) (l : count ≡ length b / 20) where
-  pub fields_at : i < count → {e : Event} → e ≡ event_at b i → {x : Bool} → x ≡ fields_hold text e → not x ≡ true → F.At i ≡ fields_of text b
-  fields_at h p {x} q r = answer_at text b (break-here (fields_hold text) b i count (first_break (fields_hold text) 0 (events_of b)) l w h p q (not-true x r))
+  pub fields_at : i < count → {e : Event} → e ≡ event_at b i → {x : Bool} → x ≡ fields_hold text e → not x ≡ true → Some i ≡ fields_of text b
+  unfolding fields_of
+  fields_at h p {x} q r = sym (break-here (fields_hold text) b i count (first_break (fields_hold text) 0 (events_of b)) l w h p q (not-true x r))
 
   pub fields-next : i < count → {e : Event} → e ≡ event_at b i → {x : Bool} → x ≡ fields_hold text e → not x ≡ false → FieldsTo text b (i + 1)
   fields-next h p {x} q r = break-next (fields_hold text) b i count (first_break (fields_hold text) 0 (events_of b)) l w h p q (not-false x r)
 
-  pub fields-end : count ≤ i → F.Yes ≡ fields_of text b
-  fields-end h = answer-yes text b (break-none (fields_hold text) b i count (first_break (fields_hold text) 0 (events_of b)) l w h)
+  pub fields-end : count ≤ i → None ≡ fields_of text b
+  unfolding fields_of
+  fields-end h = sym (break-none (fields_hold text) b i count (first_break (fields_hold text) 0 (events_of b)) l w h)
 
 -- ---- all passes but that for 4
 
@@ -57,7 +50,7 @@ module _ (text b : List ℕ) (count : ℕ) where
     pub few : Few n.counts
     pub unused : n.uses ≡ false → (k : ℕ) → k < i → is_use (event_at b k) ≡ false
 
-  pub walked_none : {s : Slicing} {n : Counting} → s.wrong ≡ count → s.seen ≡ nothing_seen → n.wrong ≡ count → n.counts ≡ none_counted → Walked 0 s n
+  pub walked_none : {s : Slicing} {n : Counting} → s.wrong ≡ None → s.seen ≡ nothing_seen → n.wrong ≡ None → n.counts ≡ none_counted → Walked 0 s n
   unfolding slices_of counts_of
   walked_none p q r t =
       record {
@@ -68,9 +61,12 @@ module _ (text b : List ℕ) (count : ℕ) where
         unused = λ u k h. absurd (omega arith);
       }
 
+  pub walked-fields : {i : ℕ} {s : Slicing} {n : Counting} → Walked i s n → FieldsTo text b i
+  walked-fields w = w.fields
+
   module _ {i : ℕ} {s : Slicing} {n : Counting} (w : Walked i s n) (l : count ≡ length b / 20) where
     module _ (h : i < count) {e : Event} (p : e ≡ event_at b i) {x : Bool} (q : x ≡ fields_hold text e) where
-      pub walked-field : not x ≡ true → F.At i ≡ fields_of text b
+      pub walked-field : not x ≡ true → Some i ≡ fields_of text b
       walked-field r = fields_at text b i count w.fields l h p q r
 
       module _ (r : not x ≡ false) where
@@ -102,13 +98,13 @@ module _ (text b : List ℕ) (count : ℕ) where
                 by-slices (uncounted-heading e (sym k ∙ g) m)
                 (follow-step (event_holds text) seen_behind b count (slices_of text b) w.slices l h p
                 (record {
-                  over = λ z. a;
-                  on = λ z f. a;
+                  over = λ j z. a ∙ z;
+                  on = λ z f. a ∙ z;
                   state = λ z f. c ∙ o;
                   breaks = λ z f. absurd (true≢false (enter-holds e (is_enter e) refl text s.seen (sym k ∙ g) ∙ f));
                 }))
 
-            pub walked-mark : (e.name ≡ 13 → ⊥) → {v : Counting} → Step count_holds counted_behind i count e n.wrong n.counts v.wrong v.counts → Few v.counts → v.uses ≡ true → Walked (i + 1) s v
+            pub walked-mark : (e.name ≡ 13 → ⊥) → {v : Counting} → Step count_holds counted_behind i e n.wrong n.counts v.wrong v.counts → Few v.counts → v.uses ≡ true → Walked (i + 1) s v
             walked-mark m o f z =
                 record {
                   fields = fields-next text b i count w.fields l h p q r;
@@ -122,22 +118,22 @@ module _ (text b : List ℕ) (count : ℕ) where
             pub walked_exit : {t : Bool} → IdleExit e.name t → t ≡ true → Walked (i + 1) s n
             walked_exit m t = by-slices (uncounted-exit e (sym k ∙ g)) (slices-on (m.unsliced t e (sym k ∙ g) refl))
 
-            pub walked-slice : {v : Slicing} → Step (event_holds text) seen_behind i count e s.wrong s.seen v.wrong v.seen → Walked (i + 1) v n
+            pub walked-slice : {v : Slicing} → Step (event_holds text) seen_behind i e s.wrong s.seen v.wrong v.seen → Walked (i + 1) v n
             walked-slice o = by-slices (uncounted-exit e (sym k ∙ g)) (follow-step (event_holds text) seen_behind b count (slices_of text b) w.slices l h p o)
 
-    module _ (h : count ≤ i) where
-      walked_end : {p : Passed} → Answers s n count p → Passes text b p
-      walked_end a =
-          record {
-            slices = a.slices ∙ follow-end (event_holds text) seen_behind b count (slices_of text b) w.slices l h;
-            counts = a.counts ∙ follow-end count_holds counted_behind b count (counts_of b) w.counts l h;
-            unused = λ u k y. w.unused (sym a.uses ∙ u) k (omega arith);
-          }
+    module _ (h : count ≤ i) {v : Nesting} (x : Inv b v i) where
+      -- elements are left open
+      pub walked-open : (v.depth ≡ 0 → ⊥) → Looks text b (Err (Nested count))
+      walked-open d = (fields-end text b i count w.fields l h, rw l (left_open x (omega arith) d))
 
       -- the end
-      pub walked_all : {ns bs : List ℕ} {d q : ℕ} → Inv b ns bs d q i → (r : Looked) → Ends d s n count r → Looks text b r
-      walked_all v (Field j) x = absurd x
-      walked_all v (Nested j) x =
-          let m : j ≡ length b / 20 = x.1 ∙ l in
-          (fields-end text b i count w.fields l h, rw m (left_open v (omega arith) x.0))
-      walked_all v (Through p) x = (fields-end text b i count w.fields l h, all_closed v (omega arith) x.0, walked_end x.1)
+      pub walked_all : v.depth ≡ 0 → Looks text b (Ok (record { slices = s.wrong; counts = n.wrong; uses = n.uses }))
+      walked_all d = (
+        fields-end text b i count w.fields l h,
+        all_closed x (omega arith) d,
+        record {
+          slices = follow-end (event_holds text) seen_behind b count (slices_of text b) w.slices l h;
+          counts = follow-end count_holds counted_behind b count (counts_of b) w.counts l h;
+          unused = λ u k y. w.unused u k (omega arith);
+        },
+      )

@@ -1,14 +1,5 @@
 -- The laws of a pass that looks for the first event that breaks a rule. Assumes nothing.
-use mathlib.Core.Path.{◌≡◌, refl, sym, ap, ◌∙◌}
-use mathlib.Core.Bool.{Bool, true, false}
-use mathlib.Core.Logic.{◌↔◌, ◌⊎◌, inl, inr}
-use mathlib.Core.List.{List, ◌∷◌}
-use mathlib.Core.Option.{Option, none, some}
-use Prim.Native.Nat.{ℕ, zero, suc, ◌+◌, ◌/◌, ◌≤◌, ◌<◌}
-use native.Mathlib.Numerals.{add-one}
-use native.Mathlib.Omega.{arith}
-use borrow.Author.Count.{below_more}
-use lib.ListN.{length, drop}
+use Rattle.std.proofs.Common.{◌≡◌, refl, sym, ap, ◌∙◌, Bool, true, false, ◌↔◌, ◌⊎◌, inl, inr, List, ◌∷◌, Option, None, Some, ℕ, zero, suc, ◌+◌, ◌/◌, ◌≤◌, ◌<◌, add-one, arith, below_more, length, drop}
 use Rattle.event.specs.declared.Event.{Event}
 use Rattle.event.specs.Event.{event_at, events_of}
 use Rattle.event.proofs.Laws.{events-next, events-end}
@@ -18,7 +9,7 @@ passes : (rule : Event → Bool) (i : ℕ) (e : Event) (es : List Event) → rul
 unfolding first_break
 passes rule i e es h = rw h
 
-breaks : (rule : Event → Bool) (i : ℕ) (e : Event) (es : List Event) → rule e ≡ false → first_break rule i (e ∷ es) ≡ some i
+breaks : (rule : Event → Bool) (i : ℕ) (e : Event) (es : List Event) → rule e ≡ false → first_break rule i (e ∷ es) ≡ Some i
 unfolding first_break
 breaks rule i e es h = rw h
 
@@ -32,10 +23,10 @@ module _ (rule : Event → Bool) (b : List ℕ) (i count : ℕ) (found : Option 
   pub break-next : {e : Event} {t : Bool} → i < count → e ≡ event_at b i → t ≡ rule e → t ≡ true → first_break rule (i + 1) (drop (i + 1) (events_of b)) ≡ found
   break-next h p q r = sym (passes rule i (event_at b i) (drop (i + 1) (events_of b)) (ap rule (sym p) ∙ sym q ∙ r)) ∙ here h
 
-  pub break-here : {e : Event} {t : Bool} → i < count → e ≡ event_at b i → t ≡ rule e → t ≡ false → found ≡ some i
+  pub break-here : {e : Event} {t : Bool} → i < count → e ≡ event_at b i → t ≡ rule e → t ≡ false → found ≡ Some i
   break-here h p q r = sym (here h) ∙ breaks rule i (event_at b i) (drop (i + 1) (events_of b)) (ap rule (sym p) ∙ sym q ∙ r)
 
-  pub break-none : count ≤ i → found ≡ none
+  pub break-none : count ≤ i → found ≡ None
   unfolding first_break
   break-none h = sym (rw (events-end b i (omega arith)) at left)
 
@@ -70,28 +61,28 @@ module _ (rule : Event → Bool) (b : List ℕ) where
       let left = unbroken i (omega arith) (λ k l. all k (omega arith)) in
       rw add-one at (break-next rule b i (length b / 20) (first_break rule 0 (events_of b)) refl left (omega arith) refl refl (all i (omega arith)))
 
-  none_of : AllBelow passes_at (length b / 20) → first_break rule 0 (events_of b) ≡ none
+  none_of : AllBelow passes_at (length b / 20) → first_break rule 0 (events_of b) ≡ None
   none_of all =
       let n = length b / 20 in
       break-none rule b n n (first_break rule 0 (events_of b)) refl (unbroken n (omega arith) all) (omega arith)
 
-  some_of : (i : ℕ) → FirstBelow passes_at (length b / 20) i → first_break rule 0 (events_of b) ≡ some i
+  some_of : (i : ℕ) → FirstBelow passes_at (length b / 20) i → first_break rule 0 (events_of b) ≡ Some i
   some_of i f =
       let w = f.within in
       break-here rule b i (length b / 20) (first_break rule 0 (events_of b)) refl (unbroken i (omega arith) f.before) w refl refl f.fails
 
   -- nothing is found exactly when every event passes
-  pub found_none : (first_break rule 0 (events_of b) ≡ none) ↔ AllBelow passes_at (length b / 20)
+  pub found_none : (first_break rule 0 (events_of b) ≡ None) ↔ AllBelow passes_at (length b / 20)
   found_none = (λ p. go p (first-or-all passes_at (length b / 20)), none_of)
     where
-      go : first_break rule 0 (events_of b) ≡ none → AllBelow passes_at (length b / 20) ⊎ (i : ℕ) × FirstBelow passes_at (length b / 20) i → AllBelow passes_at (length b / 20)
+      go : first_break rule 0 (events_of b) ≡ None → AllBelow passes_at (length b / 20) ⊎ (i : ℕ) × FirstBelow passes_at (length b / 20) i → AllBelow passes_at (length b / 20)
       go p (inl all) = all
       go p (inr (i, f)) = let q = some_of i f in let z : ◌≡◌ {A = ℕ} 0 1 = cc in absurd (omega arith)
 
   -- and i exactly when it is the first that does not
-  pub found_some : (i : ℕ) → (first_break rule 0 (events_of b) ≡ some i) ↔ FirstBelow passes_at (length b / 20) i
+  pub found_some : (i : ℕ) → (first_break rule 0 (events_of b) ≡ Some i) ↔ FirstBelow passes_at (length b / 20) i
   found_some i = (λ p. go p (first-or-all passes_at (length b / 20)), some_of i)
     where
-      go : first_break rule 0 (events_of b) ≡ some i → AllBelow passes_at (length b / 20) ⊎ (k : ℕ) × FirstBelow passes_at (length b / 20) k → FirstBelow passes_at (length b / 20) i
+      go : first_break rule 0 (events_of b) ≡ Some i → AllBelow passes_at (length b / 20) ⊎ (k : ℕ) × FirstBelow passes_at (length b / 20) k → FirstBelow passes_at (length b / 20) i
       go p (inl all) = let q = none_of all in let z : ◌≡◌ {A = ℕ} 0 1 = cc in absurd (omega arith)
       go p (inr (k, f)) = let q = some_of k f in let e : k ≡ i = cc in rw e at f

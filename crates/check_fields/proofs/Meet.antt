@@ -1,16 +1,7 @@
 -- What `fields_hold` decides: the rules of RULES R4, as facts. Assumes nothing.
-use Rattle.std.specs.Prelude.{if◌then◌else◌}
-use mathlib.Core.Path.{◌≡◌, refl, sym, ◌∙◌}
-use mathlib.Core.Bool.{Bool, true, false, not, ◌&&◌}
-use mathlib.Core.Logic.{◌↔◌}
-use mathlib.Core.List.{List}
-use Prim.Native.Nat.{ℕ, ◌+◌, ◌*◌, ◌/◌, ◌^◌, ◌≤◌, ◌<◌}
-use native.Mathlib.Nat.{div-eq_of_lt, div-lt_iff_lt-mul}
-use native.Mathlib.Omega.{arith}
-use borrow.Author.Tests.{leb-true, eqb-true, eqb-false, not-true, le-leb, eq-eqb, ne_eqb}
-use lib.Dec.{eqb, leb}
-use lib.ListN.{length}
-use lib.Pow.{pow_pos}
+use Rattle.std.proofs.Common.{if◌then◌else◌, ◌≡◌, refl, sym, ◌∙◌, Bool, true, false, not, ◌&&◌, ◌↔◌, List, ℕ, ◌+◌, ◌*◌, ◌/◌, ◌^◌, ◌≤◌, ◌<◌, div-lt_iff_lt-mul, arith, leb-true, eqb-true, le-leb, eq-eqb, ne_eqb, eqb, leb, length, pow_pos}
+use native.Mathlib.Nat.{div-eq_of_lt}
+use borrow.Author.Tests.{eqb-false, not-true}
 use Rattle.lent.proofs.Laws.{and_left, and_right}
 use Rattle.utf8.specs.Utf8.{inside}
 use Rattle.event.specs.declared.Event.{Event}

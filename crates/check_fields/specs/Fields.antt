@@ -1,12 +1,9 @@
 -- Refusal 3 (RULES R4): at the first event a field of which breaks its rule. Assumes nothing.
-use Rattle.std.specs.Prelude.{Bool, not, ◌&&◌, ◌||◌, List, ℕ, ◌+◌, ◌*◌, ◌/◌, ◌^◌, eqb, leb, length, if◌then◌else◌}
-use Rattle.std.proofs.Math.Option.{Option, none, some}
+use Rattle.std.specs.Prelude.{Bool, not, ◌&&◌, ◌||◌, List, ℕ, ◌+◌, ◌*◌, ◌/◌, ◌^◌, eqb, leb, length, if◌then◌else◌, Option}
 use Rattle.lent.specs.Bytes.{between}
 use Rattle.utf8.specs.Utf8.{inside}
 use Rattle.event.specs.declared.Event.{Event}
 use Rattle.event.specs.Event.{is_enter, columns_of, events_of}
-use Rattle.check_fields.specs.declared.Fields.{Fields}
-use Rattle.check_fields.specs.declared.Fields.TheVariants.{Yes, At}
 use Rattle.check_fields.specs.First.{first_break}
 
 -- ---- an enter
@@ -62,11 +59,6 @@ is_known e = leb e.kind 1 && leb e.name 65
 unfoldable pub fields_hold : List ℕ → Event → Bool
 fields_hold text e = is_known e && (if is_enter e then enter_holds e else exit_holds text e)
 
--- the answer to a first break, or to none
-abbrev pub answer : Option ℕ → Fields
-answer none = Yes
-answer (some i) = At i
-
--- the pass over a text and its events
-unfoldable pub fields_of : (text events : List ℕ) → Fields
-fields_of text events = answer (first_break (fields_hold text) 0 (events_of events))
+-- the pass over a text and its events: the first event that breaks a rule
+unfoldable pub fields_of : (text events : List ℕ) → Option ℕ
+fields_of text events = first_break (fields_hold text) 0 (events_of events)

@@ -1,21 +1,13 @@
 -- What other crates go by: yes exactly when every event holds, else the lowest that does not. Assumes nothing.
-use mathlib.Core.Path.{◌≡◌, refl, sym, ◌∙◌}
-use mathlib.Core.Logic.{◌↔◌}
-use mathlib.Core.Bool.{Bool, true, false, ◌||◌, or-true, true≢false}
-use mathlib.Core.List.{List, [], ◌∷◌}
-use Prim.Native.Nat.{ℕ, zero, suc, ◌+◌, ◌<◌}
-use native.Mathlib.Omega.{arith}
-use lib.ListN.{drop}
+use Rattle.std.proofs.Common.{Some, None, ◌≡◌, refl, sym, ◌∙◌, ◌↔◌, Bool, true, false, ◌||◌, true≢false, List, [], ◌∷◌, ℕ, zero, suc, ◌+◌, ◌<◌, arith, drop}
+use mathlib.Core.Bool.{or-true}
 use lib.Seq.{drop-nil}
 use Rattle.lent.specs.Bytes.{same, listed}
 use Rattle.event.specs.declared.Event.{Event}
 use Rattle.event.specs.Event.{events_of}
 use Rattle.normalize_identifier.specs.Identity.{identity_of}
 use Rattle.lent.proofs.Same.{same-iff}
-use Rattle.check_labels.specs.declared.Part.{Part}
-use Rattle.check_labels.specs.declared.Part.TheVariants.{Slice, Nothing}
-use Rattle.check_labels.specs.declared.Labels.TheVariants.{Yes, At}
-use Rattle.check_labels.specs.Labels.{slice, label_of, identities, label_holds, undefined_from, undefined_of}
+use Rattle.check_labels.specs.Labels.{Part, slice, label_of, identities, label_holds, undefined_from, undefined_of}
 
 -- ---- the answer
 
@@ -35,27 +27,27 @@ module _ (text : List ℕ) (all : List Event) where
   none-behind : {X : Type 0} (k : ℕ) {e : Event} {es : List Event} → drop k [] ≡ e ∷ es → X
   none-behind k {e} {es} q = let y : ◌≡◌ {A = List Event} [] (e ∷ es) = sym (drop-nil k) ∙ q in let z : ◌≡◌ {A = ℕ} 0 1 = cc in absurd (omega arith)
 
-  from-yes : (j : ℕ) (es : List Event) → undefined_from text all j es ≡ Yes → AllHold text all es
+  from-yes : (j : ℕ) (es : List Event) → undefined_from text all j es ≡ None → AllHold text all es
   unfolding undefined_from
   from-yes j [] p k e behind q = none-behind k q
   from-yes j (x ∷ es) p k e behind q = go (label_holds text all x es) refl k q (from-yes (j + 1) es)
     where
-      go : (t : Bool) → label_holds text all x es ≡ t → (k : ℕ) → drop k (x ∷ es) ≡ e ∷ behind → (undefined_from text all (j + 1) es ≡ Yes → AllHold text all es) → label_holds text all e behind ≡ true
+      go : (t : Bool) → label_holds text all x es ≡ t → (k : ℕ) → drop k (x ∷ es) ≡ e ∷ behind → (undefined_from text all (j + 1) es ≡ None → AllHold text all es) → label_holds text all e behind ≡ true
       go true r zero q ih = cc
       go true r (suc k) q ih = ih (rw r at p) k e behind q
-      go false r k q ih = let y : At j ≡ Yes = rw r at p in let z : ◌≡◌ {A = ℕ} 0 1 = cc in absurd (omega arith)
+      go false r k q ih = let y : Some j ≡ None = rw r at p in let z : ◌≡◌ {A = ℕ} 0 1 = cc in absurd (omega arith)
 
-  yes-from : (j : ℕ) (es : List Event) → AllHold text all es → undefined_from text all j es ≡ Yes
+  yes-from : (j : ℕ) (es : List Event) → AllHold text all es → undefined_from text all j es ≡ None
   unfolding undefined_from
   yes-from j [] h = refl
   yes-from j (x ∷ es) h = rw (h 0 x es refl) (yes-from (j + 1) es (λ k. h (suc k)))
 
-  from_at : (j i : ℕ) (es : List Event) → undefined_from text all j es ≡ At i → (k : ℕ) × (i ≡ j + k) × Lowest text all es k
+  from_at : (j i : ℕ) (es : List Event) → undefined_from text all j es ≡ Some i → (k : ℕ) × (i ≡ j + k) × Lowest text all es k
   unfolding undefined_from
   from_at j i [] p = let z : ◌≡◌ {A = ℕ} 0 1 = cc in absurd (omega arith)
   from_at j i (x ∷ es) p = go (label_holds text all x es) refl (from_at (j + 1) i es)
     where
-      go : (t : Bool) → label_holds text all x es ≡ t → (undefined_from text all (j + 1) es ≡ At i → (k : ℕ) × (i ≡ j + 1 + k) × Lowest text all es k) → (k : ℕ) × (i ≡ j + k) × Lowest text all (x ∷ es) k
+      go : (t : Bool) → label_holds text all x es ≡ t → (undefined_from text all (j + 1) es ≡ Some i → (k : ℕ) × (i ≡ j + 1 + k) × Lowest text all es k) → (k : ℕ) × (i ≡ j + k) × Lowest text all (x ∷ es) k
       go true r ih =
           let f = ih (rw r at p) in
           let l = f.2 in (
@@ -70,18 +62,18 @@ module _ (text : List ℕ) (all : List Event) where
             },
           )
       go false r ih =
-          let y : At j ≡ At i = rw r at p in
+          let y : Some j ≡ Some i = rw r at p in
           let z : j ≡ i = cc in
           (0, omega arith, record { event = x; behind = es; place = refl; fails = r; before = λ k e es' h q. absurd (omega arith) })
 
 module _ (text events : List ℕ) where
   -- yes, exactly when no link, image or call is undefined
-  pub yes_iff : (undefined_of text events ≡ Yes) ↔ AllHold text (events_of events) (events_of events)
+  pub yes_iff : (undefined_of text events ≡ None) ↔ AllHold text (events_of events) (events_of events)
   unfolding undefined_of
   yes_iff = (from-yes text (events_of events) 0 (events_of events), yes-from text (events_of events) 0 (events_of events))
 
   -- at i, then i is the lowest
-  pub at-lowest : (i : ℕ) → undefined_of text events ≡ At i → Lowest text (events_of events) (events_of events) i
+  pub at-lowest : (i : ℕ) → undefined_of text events ≡ Some i → Lowest text (events_of events) (events_of events) i
   unfolding undefined_of
   at-lowest i p =
       let r = from_at text (events_of events) 0 i (events_of events) p in
@@ -92,7 +84,7 @@ module _ (text events : List ℕ) where
 
 -- one of the events is the exit of an n whose slice has the identity s
 pub data Defines (n : ℕ) (text s : List ℕ) : List Event → Type 0 where
-  here : {e : Event} {es : List Event} {from to : ℕ} → label_of n e ≡ Slice from to → s ≡ identity_of (slice text from to) → Defines n text s (e ∷ es)
+  here : {e : Event} {es : List Event} {from to : ℕ} → label_of n e ≡ Some (from, to) → s ≡ identity_of (slice text from to) → Defines n text s (e ∷ es)
   behind : {e : Event} {es : List Event} → Defines n text s es → Defines n text s (e ∷ es)
 
 module _ (n : ℕ) (text s : List ℕ) where
@@ -102,8 +94,8 @@ module _ (n : ℕ) (text s : List ℕ) where
   to-defines (e ∷ es) p = go (label_of n e) refl p (to-defines es)
     where
       go : (l : Part) → label_of n e ≡ l → listed (identities n text (e ∷ es)) s ≡ true → (listed (identities n text es) s ≡ true → Defines n text s es) → Defines n text s (e ∷ es)
-      go Nothing r p ih = behind (ih (rw (identities, r) at p))
-      go (Slice from to) r p ih = pick (same s (identity_of (slice text from to))) refl (rw (identities, r) at p)
+      go None r p ih = behind (ih (rw (identities, r) at p))
+      go (Some (from, to)) r p ih = pick (same s (identity_of (slice text from to))) refl (rw (identities, r) at p)
         where
           pick : (t : Bool) → same s (identity_of (slice text from to)) ≡ t → (same s (identity_of (slice text from to)) || listed (identities n text es) s) ≡ true → Defines n text s (e ∷ es)
           pick true q h = here r ((same-iff s (identity_of (slice text from to))).0 q)
@@ -115,8 +107,8 @@ module _ (n : ℕ) (text s : List ℕ) where
   from-defines (behind {e} {es} d) = go (label_of n e) refl (from-defines d)
     where
       go : (l : Part) → label_of n e ≡ l → listed (identities n text es) s ≡ true → listed (identities n text (e ∷ es)) s ≡ true
-      go Nothing r h = rw (identities, r) h
-      go (Slice from to) r h = rw (identities, r, h) (or-true (same s (identity_of (slice text from to))))
+      go None r h = rw (identities, r) h
+      go (Some (from, to)) r h = rw (identities, r, h) (or-true (same s (identity_of (slice text from to))))
 
   -- a definition has the identity s, exactly when `has_label` says so
   pub defined-iff : (es : List Event) → (listed (identities n text es) s ≡ true) ↔ Defines n text s es

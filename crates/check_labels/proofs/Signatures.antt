@@ -1,61 +1,15 @@
 -- Why signatures are right, and why labels that differ in theirs need not be compared. Assumes nothing.
-use mathlib.Core.Path.{◌≡◌, refl, sym, ap, ◌∙◌}
-use mathlib.Core.Bool.{Bool, true, false, true≢false}
-use mathlib.Core.List.{List, [], ◌∷◌}
-use Prim.Native.Nat.{ℕ, ◌+◌, ◌*◌, ◌-◌, ◌/◌, ◌<◌, ◌≤◌}
-use native.Mathlib.Omega.{arith}
-use lib.ListN.{length, drop, get_or, set, length-set, length-drop}
-use lib.Seq.{get_or-set_same, get_or-set_other, get_or-drop, drop-drop}
-use borrow.Author.Count.{below_more}
+use Rattle.std.proofs.Common.{None, ◌≡◌, refl, sym, ap, ◌∙◌, Bool, true, false, List, [], ◌∷◌, ℕ, ◌+◌, ◌-◌, ◌/◌, ◌<◌, ◌≤◌, arith, length, drop, get_or, length-drop, get_or-drop, drop-drop, below_more}
 use Rattle.lent.specs.Bytes.{same}
-use Rattle.event.specs.declared.Event.{Event}
 use Rattle.event.specs.Event.{event_at, events_of}
 use Rattle.event.proofs.Laws.{events-next, events-end}
 use Rattle.normalize_identifier.specs.Identity.{identity_of}
 use Rattle.signature.specs.declared.Signature.{Signature}
 use Rattle.signature.specs.Signature.{signature_of}
-use Rattle.signature.proofs.Laws.{differs_none, unequal, two}
-use Rattle.check_labels.specs.declared.Part.TheVariants.{Nothing}
+use Rattle.signature.proofs.Laws.{unequal, two}
 use Rattle.check_labels.specs.Labels.{slice, label_of, identities}
 use Rattle.check_labels.specs.Signature.{words_at, SignedTo, Signed, Reached, Signing, Puts, Skips}
 use Rattle.check_labels.specs.Next.{Labelled}
-
--- ---- two words put
-
-abbrev pub put : List ℕ → ℕ → Signature → List ℕ
-put signatures i s = set (set signatures (2 * i) s.first) (2 * i + 1) s.second
-
-module _ (signatures : List ℕ) (i : ℕ) (s : Signature) where
-  put-long : length (put signatures i s) ≡ length signatures
-  put-long = simp length-set
-
-  put_same : i < length signatures / 2 → words_at (put signatures i s) i ≡ s
-  put_same h =
-      let l : 2 * i + 1 < length (set signatures (2 * i) s.first) = simp length-set (omega arith) in
-      rw (get_or-set_same (set signatures (2 * i) s.first) (2 * i + 1) s.second 0 l, get_or-set_other (set signatures (2 * i) s.first) (2 * i + 1) (2 * i) s.second 0 (λ z. omega arith), get_or-set_same signatures (2 * i) s.first 0 (omega arith))
-
-  put_other : (k : ℕ) → k < i → words_at (put signatures i s) k ≡ words_at signatures k
-  put_other k h =
-      let t = set signatures (2 * i) s.first in
-      rw (
-        get_or-set_other t (2 * i + 1) (2 * k) s.second 0 (λ z. omega arith),
-        get_or-set_other t (2 * i + 1) (2 * k + 1) s.second 0 (λ z. omega arith),
-        get_or-set_other signatures (2 * i) (2 * k) s.first 0 (λ z. omega arith),
-        get_or-set_other signatures (2 * i) (2 * k + 1) s.first 0 (λ z. omega arith),
-      )
-
-module _ (text : List ℕ) (e : Event) (k : ℕ) (signatures : List ℕ) where
-  pub puts_none : length signatures / 2 ≤ k → Puts text e k signatures signatures
-  puts_none h = record { here = λ l. absurd (omega arith); others = λ j l. refl; long = refl }
-
-  pub puts-here : k < length signatures / 2 → {v : Event} {label : List ℕ} {s : Signature} → v ≡ e → label ≡ slice text v.from.0 v.to.0 → s ≡ signature_of (identity_of label)
-      → Puts text e k signatures (put signatures k s)
-  puts-here h {s = s} g l m =
-      record {
-        here = λ w. put_same signatures k s h ∙ m ∙ rw (l, g);
-        others = put_other signatures k s;
-        long = put-long signatures k s;
-      }
 
 -- ---- the labels that are left
 
@@ -77,7 +31,7 @@ pub reached-none : (text b : List ℕ) (n : ℕ) → Reached text b n 0 0
 reached-none text b n = record { left = refl; few = omega arith }
 
 module _ {text b : List ℕ} {n i k : ℕ} (r : Reached text b n i k) (h : i < length b / 20) where
-  pub reached-other : label_of n (event_at b i) ≡ Nothing → Reached text b n (i + 1) k
+  pub reached-other : label_of n (event_at b i) ≡ None → Reached text b n (i + 1) k
   unfolding identities
   reached-other e =
       let m = r.few in
@@ -101,11 +55,8 @@ module _ {text b : List ℕ} {n i k : ℕ} (r : Reached text b n i k) (h : i < l
 
 -- ---- all of them signed, one by one
 
-pub signing-none : (text b : List ℕ) (n : ℕ) (signatures : List ℕ) → Signing text b n 0 0 signatures
-signing-none text b n signatures = record { reached = reached-none text b n; signed = record { right = λ k h. absurd (omega arith) } }
-
 module _ {text b signatures : List ℕ} {n i k : ℕ} (s : Signing text b n i k signatures) where
-  pub signing-other : i < length b / 20 → label_of n (event_at b i) ≡ Nothing → Signing text b n (i + 1) k signatures
+  pub signing-other : i < length b / 20 → label_of n (event_at b i) ≡ None → Signing text b n (i + 1) k signatures
   signing-other h e = record { reached = reached-other s.reached h e; signed = s.signed }
 
   pub signing-put : i < length b / 20 → Labelled b n i → {after : List ℕ} → Puts text (event_at b i) k signatures after → Signing text b n (i + 1) (k + 1) after
@@ -128,9 +79,6 @@ module _ {text b signatures : List ℕ} {n i k : ℕ} (s : Signing text b n i k 
       record { right = λ j y. s.signed.right j (omega arith) }
 
 -- ---- labels that are passed over
-
-pub skips-none : (signatures : List ℕ) (k : ℕ) (s : Signature) → Skips signatures k s false
-skips-none signatures k s = record { inside = λ p. absurd (true≢false (sym p)); differs = differs_none _ _ s }
 
 -- so they are other labels
 pub skipped : {ids : List (List ℕ)} {signatures : List ℕ} (label x : List ℕ) {k : ℕ} {s : Signature} {r : Bool} → SignedTo (length ids) ids signatures → k < length ids → get_or ids k [] ≡ x

@@ -1,66 +1,32 @@
 -- Why the code's turns are the definition's. Assumes nothing.
-use mathlib.Core.Path.{◌≡◌, refl, sym, ap, ◌∙◌}
-use mathlib.Core.Bool.{Bool, true, false, ◌&&◌}
-use mathlib.Core.List.{List, [], ◌∷◌}
-use Prim.Native.Nat.{ℕ, ◌+◌, ◌-◌, ◌/◌, ◌<◌, ◌≤◌}
-use native.Mathlib.Omega.{arith}
-use lib.Dec.{eqb, leb}
-use lib.ListN.{length, drop}
-use borrow.Author.Tests.{le-leb, lt-leb, eq-eqb, ne_eqb}
+use Rattle.std.proofs.Common.{Option, Some, None, ◌≡◌, refl, sym, ap, ◌∙◌, Bool, true, false, ◌&&◌, List, [], ◌∷◌, ℕ, ◌+◌, ◌-◌, ◌/◌, ◌<◌, ◌≤◌, arith, eqb, leb, length, drop, eq-eqb, ne_eqb}
 use Rattle.lent.specs.Bytes.{one_of, same, listed}
 use Rattle.event.specs.declared.Event.{Event}
 use Rattle.event.specs.Event.{is_enter, event_at, events_of}
 use Rattle.event.proofs.Laws.{events-next, events-end}
 use Rattle.normalize_identifier.specs.Identity.{identity_of}
-use Rattle.check_labels.specs.declared.Part.{Part}
-use Rattle.check_labels.specs.declared.Part.TheVariants.{Slice, Nothing}
 use Rattle.check_labels.specs.declared.Turn.{Turn}
 use Rattle.check_labels.specs.declared.Turn.TheVariants.{On, Own, Out}
-use Rattle.check_labels.specs.declared.Labels.{Labels}
-use Rattle.check_labels.specs.declared.Labels.TheVariants.{Yes, At}
-use Rattle.check_labels.specs.Labels.{slice, label_of, identities, turn_of, own_part, sought_of, is_defined, label_holds, undefined_from, undefined_of}
+use Rattle.check_labels.specs.Labels.{Part, slice, label_of, identities, turn_of, own_part, sought_of, is_defined, label_holds, undefined_from, undefined_of}
 
 -- ---- an element's own part
 
 module _ (n : ℕ) (e : Event) where
-  pub label-enter : e.kind ≡ 0 → label_of n e ≡ Nothing
+  pub label-enter : e.kind ≡ 0 → label_of n e ≡ None
   unfolding label_of
   label-enter k = rw (eq-eqb e.kind 0 k)
 
-  pub label-other : (e.name ≡ n → ⊥) → label_of n e ≡ Nothing
+  pub label-other : (e.name ≡ n → ⊥) → label_of n e ≡ None
   unfolding label_of
   label-other p = go (is_enter e) refl
     where
-      go : (t : Bool) → is_enter e ≡ t → label_of n e ≡ Nothing
+      go : (t : Bool) → is_enter e ≡ t → label_of n e ≡ None
       go true k = rw k
       go false k = rw (k, ne_eqb e.name n p)
 
-  pub label-here : (e.kind ≡ 0 → ⊥) → e.name ≡ n → label_of n e ≡ Slice e.from.0 e.to.0
+  pub label-here : (e.kind ≡ 0 → ⊥) → e.name ≡ n → label_of n e ≡ Some (e.from.0, e.to.0)
   unfolding label_of
   label-here k p = rw (ne_eqb e.kind 0 k, eq-eqb e.name n p)
-
-module _ (n at depth : ℕ) (e : Event) where
-  pub turn-passed : e.name ≤ 4 → On depth ≡ turn_of n at depth e
-  unfolding turn_of
-  turn-passed l = rw (le-leb e.name 4 l)
-
-  module _ (l : 4 < e.name) where
-    pub turn-enter : e.kind ≡ 0 → On (depth + 1) ≡ turn_of n at depth e
-    unfolding turn_of
-    turn-enter k = rw (lt-leb e.name 4 l, eq-eqb e.kind 0 k)
-
-    module _ (k : e.kind ≡ 0 → ⊥) where
-      pub turn-out : depth ≡ 0 → Out ≡ turn_of n at depth e
-      unfolding turn_of
-      turn-out d = rw (lt-leb e.name 4 l, ne_eqb e.kind 0 k, eq-eqb depth 0 d)
-
-      pub turn-own : {t : Bool} → (depth ≡ 0 → ⊥) → t ≡ (eqb depth at && eqb e.name n) → t ≡ true → Own e.from.0 e.to.0 ≡ turn_of n at depth e
-      unfolding turn_of
-      turn-own d t u = rw (lt-leb e.name 4 l, ne_eqb e.kind 0 k, ne_eqb depth 0 d, ← t, u)
-
-      pub turn-exit : {t : Bool} → (depth ≡ 0 → ⊥) → t ≡ (eqb depth at && eqb e.name n) → t ≡ false → On (depth - 1) ≡ turn_of n at depth e
-      unfolding turn_of
-      turn-exit d t u = rw (lt-leb e.name 4 l, ne_eqb e.kind 0 k, ne_eqb depth 0 d, ← t, u)
 
 -- no deeper than one more
 pub turn-depth : (n at depth : ℕ) (e : Event) {t : Turn} {d i : ℕ} → t ≡ turn_of n at depth e → t ≡ On d → depth ≤ i → d ≤ i + 1
@@ -90,33 +56,17 @@ module _ (b : List ℕ) (n at depth : ℕ) {i count : ℕ} {w : Part} (q : count
   unfolding own_part
   own_on r = rw (here b q h, own_part, turned, r) at e
 
-  pub own-found : {x y : ℕ} → t ≡ Own x y → Slice x y ≡ w
+  pub own-found : {x y : ℕ} → t ≡ Own x y → Some (x, y) ≡ w
   unfolding own_part
   own-found r = rw (here b q h, own_part, turned, r) at e
 
-  pub own_out : t ≡ Out → Nothing ≡ w
+  pub own_out : t ≡ Out → None ≡ w
   unfolding own_part
   own_out r = rw (here b q h, own_part, turned, r) at e
 
-pub own-end : (b : List ℕ) (n at depth : ℕ) {i count : ℕ} {w : Part} → count ≡ length b / 20 → count ≤ i → own_part n at depth (drop i (events_of b)) ≡ w → Nothing ≡ w
+pub own-end : (b : List ℕ) (n at depth : ℕ) {i count : ℕ} {w : Part} → count ≡ length b / 20 → count ≤ i → own_part n at depth (drop i (events_of b)) ≡ w → None ≡ w
 unfolding own_part
 own-end b n at depth {i} q h e = let l : length b / 20 ≤ i = omega arith in rw (events-end b i l) at e
-
--- ---- what is sought
-
-module _ (es : List Event) {p : Part} (h : p ≡ own_part 49 1 0 es) where
-  pub sought-none : {a b : ℕ} → p ≡ Slice a b → Nothing ≡ sought_of es
-  unfolding sought_of
-  sought-none q = rw (← h, q)
-
-  module _ (n : p ≡ Nothing) {r : Part} (k : r ≡ own_part 52 1 0 es) where
-    pub sought-reference : {a b : ℕ} → r ≡ Slice a b → Slice a b ≡ sought_of es
-    unfolding sought_of
-    sought-reference q = rw (← h, n, ← k, q)
-
-    pub sought-label : {t : Part} → r ≡ Nothing → t ≡ own_part 48 2 0 es → t ≡ sought_of es
-    unfolding sought_of
-    sought-label q m = rw (← h, n, ← k, q, m)
 
 -- ---- the search among the definitions' labels
 
@@ -125,7 +75,7 @@ module _ (text b : List ℕ) (n : ℕ) (s : List ℕ) {i count : ℕ} {w : Bool}
   labelled : label_of n (event_at b i) ≡ p
   labelled = ap (label_of n) (sym g) ∙ sym r
 
-  module _ {from to : ℕ} (m : p ≡ Slice from to) where
+  module _ {from to : ℕ} (m : p ≡ Some (from, to)) where
     pub listed-other : same s (identity_of (slice text from to)) ≡ false → listed (identities n text (drop (i + 1) (events_of b))) s ≡ w
     unfolding identities
     listed-other f = rw (here b q h, identities, labelled, m, f) at e
@@ -136,9 +86,6 @@ module _ (text b : List ℕ) (n : ℕ) (s : List ℕ) {i count : ℕ} {w : Bool}
         let y : same s (identity_of (slice text from to)) ≡ true = rw (← l) (sym t ∙ u) in
         rw (here b q h, identities, labelled, m, y) at e
 
-    pub listed-differs : {t : Bool} {label : List ℕ} → label ≡ slice text from to → t ≡ same s (identity_of label) → t ≡ false → listed (identities n text (drop (i + 1) (events_of b))) s ≡ w
-    listed-differs l t u = listed-other (rw (← l) (sym t ∙ u))
-
 pub listed-end : (text b : List ℕ) (n : ℕ) (s : List ℕ) {i count : ℕ} {w : Bool} → count ≡ length b / 20 → count ≤ i → listed (identities n text (drop i (events_of b))) s ≡ w → false ≡ w
 unfolding identities
 listed-end text b n s {i} q h e = let l : length b / 20 ≤ i = omega arith in rw (events-end b i l) at e
@@ -146,11 +93,7 @@ listed-end text b n s {i} q h e = let l : length b / 20 ≤ i = omega arith in r
 -- ---- one event
 
 module _ (text : List ℕ) (ids : List (List ℕ)) {p : Part} where
-  pub defined-slice : {from to : ℕ} {label : List ℕ} {t : Bool} → p ≡ Slice from to → label ≡ slice text from to → t ≡ listed ids (identity_of label) → t ≡ is_defined text ids p
-  unfolding is_defined
-  defined-slice q g h = rw (q, ← g) h
-
-  pub defined-none : p ≡ Nothing → true ≡ is_defined text ids p
+  pub defined-none : p ≡ None → true ≡ is_defined text ids p
   unfolding is_defined
   defined-none q = rw q
 
@@ -165,10 +108,6 @@ module _ (text b : List ℕ) (e : Event) (es : List Event) {k : ℕ} (r : k ≡ 
       unfolding label_holds
       holds-medium y g h = rw (eq-eqb e.kind 0 (sym r ∙ m), ← p, ← o, y, ← g) h
 
-      pub holds-call : {s : Part} {t : Bool} → u ≡ false → x ≡ 62 → s ≡ sought_of es → t ≡ is_defined text (identities 65 text (events_of b)) s → t ≡ label_holds text (events_of b) e es
-      unfolding label_holds
-      holds-call y z g h = rw (eq-eqb e.kind 0 (sym r ∙ m), ← p, ← o, y, eq-eqb x 62 z, ← g) h
-
       pub holds-other : u ≡ false → (x ≡ 62 → ⊥) → true ≡ label_holds text (events_of b) e es
       unfolding label_holds
       holds-other y z = rw (eq-eqb e.kind 0 (sym r ∙ m), ← p, ← o, y, ne_eqb x 62 z)
@@ -179,16 +118,16 @@ pub first-start : (text b : List ℕ) → undefined_from text (events_of b) 0 (d
 unfolding undefined_of
 first-start text b = refl
 
-module _ (text b : List ℕ) {i count : ℕ} {w : Labels} (q : count ≡ length b / 20) (e : undefined_from text (events_of b) i (drop i (events_of b)) ≡ w) where
+module _ (text b : List ℕ) {i count : ℕ} {w : Option ℕ} (q : count ≡ length b / 20) (e : undefined_from text (events_of b) i (drop i (events_of b)) ≡ w) where
   pub first_more : {t : Bool} → i < count → t ≡ label_holds text (events_of b) (event_at b i) (drop (i + 1) (events_of b)) → t ≡ true
       → undefined_from text (events_of b) (i + 1) (drop (i + 1) (events_of b)) ≡ w
   unfolding undefined_from
   first_more h t u = rw (here b q h, ← t, u) at e
 
-  pub first_found : {t : Bool} → i < count → t ≡ label_holds text (events_of b) (event_at b i) (drop (i + 1) (events_of b)) → t ≡ false → At i ≡ w
+  pub first_found : {t : Bool} → i < count → t ≡ label_holds text (events_of b) (event_at b i) (drop (i + 1) (events_of b)) → t ≡ false → Some i ≡ w
   unfolding undefined_from
   first_found h t u = rw (here b q h, ← t, u) at e
 
-  pub first-end : count ≤ i → Yes ≡ w
+  pub first-end : count ≤ i → None ≡ w
   unfolding undefined_from
   first-end h = let l : length b / 20 ≤ i = omega arith in rw (events-end b i l) at e

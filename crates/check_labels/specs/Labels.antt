@@ -1,15 +1,15 @@
 -- Refusal 7 (RULES R7.5): links, images and calls whose label no definition has. Assumes nothing.
-use Rattle.std.specs.Prelude.{Bool, true, not, ◌&&◌, List, [], ◌∷◌, ℕ, ◌+◌, ◌-◌, eqb, leb, take, drop, if◌then◌else◌}
+use Rattle.std.specs.Prelude.{Bool, true, not, ◌&&◌, List, [], ◌∷◌, ℕ, ◌+◌, ◌-◌, eqb, leb, take, drop, if◌then◌else◌, Option, Some, None}
 use Rattle.lent.specs.Bytes.{listed}
 use Rattle.event.specs.declared.Event.{Event}
 use Rattle.event.specs.Event.{is_enter, named, events_of}
 use Rattle.normalize_identifier.specs.Identity.{identity_of}
-use Rattle.check_labels.specs.declared.Part.{Part}
-use Rattle.check_labels.specs.declared.Part.TheVariants.{Slice, Nothing}
 use Rattle.check_labels.specs.declared.Turn.{Turn}
 use Rattle.check_labels.specs.declared.Turn.TheVariants.{On, Own, Out}
-use Rattle.check_labels.specs.declared.Labels.{Labels}
-use Rattle.check_labels.specs.declared.Labels.TheVariants.{Yes, At}
+
+-- a part of an element: its slice, from a place to another, or none
+abbrev pub Part : Type 0
+Part = Option (ℕ × ℕ)
 
 -- the text from a place to another, as much of it as there is
 abbrev pub slice : List ℕ → (from to : ℕ) → List ℕ
@@ -20,14 +20,14 @@ slice text from to = take (to - from) (drop from text)
 -- the slice that the exit of an n has
 unfoldable pub label_of : ℕ → Event → Part
 label_of n e =
-    if is_enter e then Nothing
-    else (if eqb e.name n then Slice e.from.0 e.to.0
-    else Nothing)
+    if is_enter e then None
+    else (if eqb e.name n then Some (e.from.0, e.to.0)
+    else None)
 
 -- the identities of the labels of the definitions (n is 54) or of the footnote definitions (65)
 unfoldable pub identities : ℕ → List ℕ → List Event → List (List ℕ)
 identities n text [] = []
-identities n text (e ∷ es) = elim (label_of n e) [ Slice from to ↦ identity_of (slice text from to) ∷ identities n text es | Nothing ↦ identities n text es ]
+identities n text (e ∷ es) = elim (label_of n e) [ Some (from, to) ↦ identity_of (slice text from to) ∷ identities n text es | None ↦ identities n text es ]
 
 -- ---- what a link, image or call has
 
@@ -43,16 +43,16 @@ turn_of n at depth e =
 
 -- the slice of an element's own part n: es are the events behind its enter, or behind what was passed
 unfoldable pub own_part : (n at depth : ℕ) → List Event → Part
-own_part n at depth [] = Nothing
-own_part n at depth (e ∷ es) = elim (turn_of n at depth e) [ On d ↦ own_part n at d es | Own from to ↦ Slice from to | Out ↦ Nothing ]
+own_part n at depth [] = None
+own_part n at depth (e ∷ es) = elim (turn_of n at depth e) [ On d ↦ own_part n at d es | Own from to ↦ Some (from, to) | Out ↦ None ]
 
 abbrev pub unless : Part → Part → Part
-unless (Slice from to) p = Nothing
-unless Nothing p = p
+unless (Some s) p = None
+unless None p = p
 
 abbrev pub or_else : Part → Part → Part
-or_else (Slice from to) p = Slice from to
-or_else Nothing p = p
+or_else (Some s) p = Some s
+or_else None p = p
 
 -- without 49, 52's slice, else 48's, which stands in its 47; with neither, none is sought
 unfoldable pub sought_of : List Event → Part
@@ -62,8 +62,8 @@ sought_of es = unless (own_part 49 1 0 es) (or_else (own_part 52 1 0 es) (own_pa
 
 -- whether the identity of what is sought is one of ids
 unfoldable pub is_defined : List ℕ → List (List ℕ) → Part → Bool
-is_defined text ids (Slice from to) = listed ids (identity_of (slice text from to))
-is_defined text ids Nothing = true
+is_defined text ids (Some (from, to)) = listed ids (identity_of (slice text from to))
+is_defined text ids None = true
 
 -- an event, with those behind it, is no enter of a link or image whose label no definition among all events has, and none of a call whose label no footnote definition has
 unfoldable pub label_holds : List ℕ → List Event → Event → List Event → Bool
@@ -74,9 +74,9 @@ label_holds text events e behind =
     else true))
 
 -- the first of the events from i on that does not hold
-unfoldable pub undefined_from : List ℕ → List Event → ℕ → List Event → Labels
-undefined_from text events i [] = Yes
-undefined_from text events i (e ∷ es) = if label_holds text events e es then undefined_from text events (i + 1) es else At i
+unfoldable pub undefined_from : List ℕ → List Event → ℕ → List Event → Option ℕ
+undefined_from text events i [] = None
+undefined_from text events i (e ∷ es) = if label_holds text events e es then undefined_from text events (i + 1) es else Some i
 
-unfoldable pub undefined_of : (text events : List ℕ) → Labels
+unfoldable pub undefined_of : (text events : List ℕ) → Option ℕ
 undefined_of text events = undefined_from text (events_of events) 0 (events_of events)

@@ -1,20 +1,11 @@
 -- A list without a link, an image or a call does not break 7. Assumes nothing.
-use mathlib.Core.Path.{◌≡◌, refl}
-use mathlib.Core.Bool.{Bool, true, false, true≢false}
-use mathlib.Core.List.{List}
-use Prim.Native.Nat.{ℕ, zero, suc, ◌/◌, ◌≤◌}
-use native.Mathlib.Numerals.{add-one}
-use native.Mathlib.Omega.{arith}
-use lib.Dec.{eqb}
-use lib.ListN.{length, drop}
+use Rattle.std.proofs.Common.{None, Ok, ◌≡◌, refl, Bool, true, false, true≢false, List, ℕ, zero, suc, ◌/◌, ◌≤◌, add-one, arith, eqb, length, drop}
 use Rattle.event.specs.declared.Event.{Event}
 use Rattle.event.specs.Event.{is_enter, event_at, events_of}
-use Rattle.check_labels.specs.declared.Labels.TheVariants as L
 use Rattle.check_labels.specs.Labels.{label_holds, undefined_from, undefined_of}
 use Rattle.check_labels.proofs.Steps.{first-start, first_more, first-end}
 use Rattle.check_events.specs.declared.Passed.{Passed}
 use Rattle.check_events.specs.Looked.{is_use, NoUses, Passes}
-use Rattle.check_list.specs.declared.Checked.TheVariants.{Yes}
 use Rattle.check_list.specs.Stairs.{from_labels}
 use Rattle.check_list.proofs.Order.{labels-pass}
 
@@ -37,8 +28,8 @@ module _ (text b : List ℕ) (none : NoUses b) where
       let u = unused-holds text (events_of b) (event_at b i) (drop (suc i) (events_of b)) (none i (omega arith)) in
       rw add-one at (first_more text b refl (unused-to i (omega arith)) (omega arith) (rw add-one u) refl)
 
-  unused : L.Yes ≡ undefined_of text b
+  unused : None ≡ undefined_of text b
   unused = first-end text b refl (unused-to (length b / 20) (omega arith)) (omega arith)
 
-pub no-uses : (text b : List ℕ) {p : Passed} → Passes text b p → p.uses ≡ false → Yes ≡ from_labels text b
-no-uses text b w u = labels-pass text b L.Yes (unused text b (w.unused u)) refl
+pub no-uses : (text b : List ℕ) {p : Passed} → Passes text b p → p.uses ≡ false → Ok tt ≡ from_labels text b
+no-uses text b w u = labels-pass text b None (unused text b (w.unused u)) refl

@@ -3,18 +3,15 @@
 
 ghost use Rattle.std.specs.Prelude.{◌≡◌};
 ghost use Rattle.check_events.specs.Looked.{Passes};
-ghost use Rattle.check_list.specs.Checked.{sizes_hold, Checks, number_of, place_of};
+ghost use Rattle.check_list.specs.Checked.{refusal_of, sizes_hold, Checks, number_of, place_of};
 ghost use Rattle.check_list.specs.Stairs.{from_fields, from_slices};
 
-use check_events::Passed;
-use check_labels::Labels;
-use check_slices::FirstWrong;
+use check_events::{Fault, Passed};
 use event::{Event, EventIndex};
 
-// Yes, or why not: refusals 1 to 7 (RULES R7.1), with the event where there is one. Left open at the end, it is the count of events.
+// Why a list is refused: 1 to 7 (RULES R7.1), with the event where there is one. Left open at the end, it is the count of events.
 #[derive(Clone, Copy)]
-pub enum Checked {
-    Yes,
+pub enum Refusal {
     WrongLength,
     NotUtf8,
     Field(EventIndex),
@@ -24,6 +21,48 @@ pub enum Checked {
     Label(EventIndex),
 }
 
+impl From<Fault> for Refusal {
+    ghost from_gives = { λ f r. r ≡ refusal_of f };
+
+    fn from(f: Fault) -> Refusal {
+        match f {
+            Fault::Field(i) => Refusal::Field(EventIndex(i)),
+            Fault::Nested(i) => Refusal::Nested(EventIndex(i)),
+        }
+    }
+}
+
+impl Refusal {
+    // Its number (RULES R7.1).
+    pub fn number(self) -> u32
+        ensures { result ≡ number_of (Err self) }
+    {
+        match self {
+            Refusal::WrongLength => 1,
+            Refusal::NotUtf8 => 2,
+            Refusal::Field(_) => 3,
+            Refusal::Nested(_) => 4,
+            Refusal::Slice(_) => 5,
+            Refusal::Count(_) => 6,
+            Refusal::Label(_) => 7,
+        }
+    }
+
+    // Its place.
+    pub fn place(self) -> usize
+        ensures { result ≡ place_of (Err self) }
+    {
+        match self {
+            Refusal::WrongLength | Refusal::NotUtf8 => 0,
+            Refusal::Field(i) => i.0,
+            Refusal::Nested(i) => i.0,
+            Refusal::Slice(i) => i.0,
+            Refusal::Count(i) => i.0,
+            Refusal::Label(i) => i.0,
+        }
+    }
+}
+
 // The most bytes of text.
 pub const MOST_TEXT: usize = 64000;
 
@@ -31,47 +70,35 @@ pub const MOST_TEXT: usize = 64000;
 pub const MOST_EVENTS: usize = 3200 * Event::SIZE;
 
 // All of the rules.
-pub fn check(text: &[u8], events: &[u8]) -> Checked
+pub fn check(text: &[u8], events: &[u8]) -> Result<(), Refusal>
     ensures { Checks text.now events.now result }
 {
     if !sizes_hold(text, events) {
-        return Checked::WrongLength;
+        return Err(Refusal::WrongLength);
     }
     if !utf8::is_utf8(text) {
-        return Checked::NotUtf8;
+        return Err(Refusal::NotUtf8);
     }
     from_fields(text, events)
 }
 
-// An answer's number (RULES R7.1).
-pub fn number(c: Checked) -> u32
+// An answer's number (RULES R7.1): 0 is yes.
+pub fn number(c: Result<(), Refusal>) -> u32
     ensures { result ≡ number_of c }
 {
     match c {
-        Checked::Yes => 0,
-        Checked::WrongLength => 1,
-        Checked::NotUtf8 => 2,
-        Checked::Field(_) => 3,
-        Checked::Nested(_) => 4,
-        Checked::Slice(_) => 5,
-        Checked::Count(_) => 6,
-        Checked::Label(_) => 7,
+        Ok(()) => 0,
+        Err(r) => r.number(),
     }
 }
 
 // A refusal's place.
-pub fn place(c: Checked) -> usize
+pub fn place(c: Result<(), Refusal>) -> usize
     ensures { result ≡ place_of c }
 {
     match c {
-        Checked::Yes => 0,
-        Checked::WrongLength => 0,
-        Checked::NotUtf8 => 0,
-        Checked::Field(i) => i.0,
-        Checked::Nested(i) => i.0,
-        Checked::Slice(i) => i.0,
-        Checked::Count(i) => i.0,
-        Checked::Label(i) => i.0,
+        Ok(()) => 0,
+        Err(r) => r.place(),
     }
 }
 
@@ -83,36 +110,29 @@ fn sizes_hold(text: &[u8], events: &[u8]) -> bool
 }
 
 // From 3 on: one walk answers for 3 to 6.
-fn from_fields(text: &[u8], events: &[u8]) -> Checked
+fn from_fields(text: &[u8], events: &[u8]) -> Result<(), Refusal>
     ensures { result ≡ from_fields text.now events.now }
 {
-    match check_events::look(text, events) {
-        check_events::Looked::Field(i) => Checked::Field(EventIndex(i)),
-        check_events::Looked::Nested(i) => Checked::Nested(EventIndex(i)),
-        check_events::Looked::Through(p) => through(text, events, p),
-    }
+    let passed = check_events::look(text, events)?;
+    through(text, events, passed)
 }
 
 // From 5 on, by what the walk found. A list without a link, an image or a call does not break 7.
-fn through(text: &[u8], events: &[u8], p: Passed) -> Checked
+fn through(text: &[u8], events: &[u8], p: Passed) -> Result<(), Refusal>
     requires { Passes text.now events.now p }
     ensures { result ≡ from_slices text.now events.now }
 {
-    let slices = p.slices;
-    let counts = p.counts;
-    match slices {
-        FirstWrong::At(i) => Checked::Slice(EventIndex(i)),
-        FirstWrong::Yes => match counts {
-            FirstWrong::At(i) => Checked::Count(EventIndex(i)),
-            FirstWrong::Yes => {
-                if !p.uses {
-                    return Checked::Yes;
-                }
-                match check_labels::check_labels(text, events) {
-                    Labels::Yes => Checked::Yes,
-                    Labels::At(i) => Checked::Label(EventIndex(i)),
-                }
-            }
-        },
+    if let Some(i) = p.slices {
+        return Err(Refusal::Slice(EventIndex(i)));
     }
+    if let Some(i) = p.counts {
+        return Err(Refusal::Count(EventIndex(i)));
+    }
+    if !p.uses {
+        return Ok(());
+    }
+    if let Some(i) = check_labels::check_labels(text, events) {
+        return Err(Refusal::Label(EventIndex(i)));
+    }
+    Ok(())
 }

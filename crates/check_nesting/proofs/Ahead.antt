@@ -1,16 +1,9 @@
 -- The place that the pass gives: some list that begins with the tags before it nests, and no more than 64 are open there. Assumes nothing.
-use mathlib.Core.Path.{◌≡◌, refl, sym, ◌∙◌}
-use mathlib.Core.Bool.{Bool, true, false, ◌&&◌, false≢true}
-use mathlib.Core.List.{List, [], ◌∷◌, ◌++◌}
-use Prim.Native.Nat.{ℕ, zero, suc, ◌+◌, ◌≤◌, ◌<◌}
-use native.Mathlib.Omega.{arith}
-use lib.Dec.{leb}
-use lib.ListN.{length, take}
+use Rattle.std.proofs.Common.{Some, ◌≡◌, refl, sym, ◌∙◌, Bool, true, false, ◌&&◌, List, [], ◌∷◌, ◌++◌, ℕ, zero, suc, ◌+◌, ◌≤◌, ◌<◌, arith, leb, length, take, eq-eqb, leb-true, leb-false}
+use mathlib.Core.Bool.{false≢true}
 use lib.Seq.{take-nil}
-use borrow.Author.Tests.{eq-eqb, leb-true, leb-false}
 use Rattle.lent.specs.Bytes.{one_of}
 use Rattle.lent.proofs.Laws.{and_left, and_right}
-use Rattle.check_nesting.specs.declared.Nesting.TheVariants.{At}
 use Rattle.check_nesting.specs.Grammar.{Item, one, opt, any, chain, name_of, holds, rules, whole}
 use Rattle.check_nesting.specs.Tag.{Tag, exit, open_behind}
 use Rattle.check_nesting.specs.Nests.{Forest, nil, tree, depth, events, Takes, nothing, one-taken, opt_none, any_none, chain-none, Children, none, child, NestsWithin}
@@ -132,7 +125,7 @@ step-along : {t : Tag} {r r' : Rest} {os os' : List Open} → Moves 64 t r os (g
 step-along m l ts f zero = l
 step-along m l ts f (suc k) = rw (move-open m (take k ts)) (f k)
 
-reach : (n : ℕ) (ts : List Tag) (i : ℕ) (r : Rest) (os : List Open) → nest_from 64 i r os ts ≡ At (i + n) → Fine r → AllFine os → length os ≤ 64 → Reached r os (take n ts)
+reach : (n : ℕ) (ts : List Tag) (i : ℕ) (r : Rest) (os : List Open) → nest_from 64 i r os ts ≡ Some (i + n) → Fine r → AllFine os → length os ≤ 64 → Reached r os (take n ts)
 reach zero ts i r os e f a l = here r os f a l
 reach (suc n) [] i r os e f a l = here r os f a l
 reach (suc n) (t ∷ ts) i r os e f a l = elim (first 64 t r os) [
@@ -176,7 +169,7 @@ ending r (o ∷ os) f a l = pick (leb o.name 2) refl (λ r' g. ending r' os g a.
     pick true p ih = let w = ih r f in (exit o.name ∷ w.0, λ i. goes i w.0 (leaves refl (leb-true o.name 2 p)) ∙ w.1 (i + 1))
     pick false p ih = closing r (leb-false o.name 2 p) f (ih o.behind a.0)
 
-module _ (ts : List Tag) (i : ℕ) (e : nest_of ts ≡ At i) where
+module _ (ts : List Tag) (i : ℕ) (e : nest_of ts ≡ Some i) where
   reached : Reached (rest whole) [] (take i ts)
   unfolding nest_of
   reached = let z : i ≡ 0 + i = omega arith in reach i ts 0 (rest whole) [] (rw z at e) (refl, refl) tt (omega arith)

@@ -1,11 +1,7 @@
 -- What the items ask for, `next` takes, since no child may be taken in two ways. Assumes nothing.
-use Rattle.std.specs.Prelude.{if◌then◌else◌}
-use mathlib.Core.Path.{◌≡◌, refl, sym, ap, ◌∙◌}
-use mathlib.Core.Bool.{Bool, true, false, not, ◌&&◌, ◌||◌, or-true, false≢true}
-use mathlib.Core.List.{List, [], ◌∷◌}
-use Prim.Native.Nat.{ℕ}
-use lib.Dec.{eqb}
-use borrow.Author.Tests.{eq-eqb, eqb-true, not-true}
+use Rattle.std.proofs.Common.{if◌then◌else◌, ◌≡◌, refl, sym, ap, ◌∙◌, Bool, true, false, not, ◌&&◌, ◌||◌, List, [], ◌∷◌, ℕ, eqb, eq-eqb, eqb-true}
+use mathlib.Core.Bool.{or-true, false≢true}
+use borrow.Author.Tests.{not-true}
 use Rattle.lent.specs.Bytes.{one_of, all, mapped}
 use Rattle.lent.proofs.Laws.{and_left, and_right}
 use Rattle.check_nesting.specs.Grammar.{Item, one, opt, any, chain, name_of, Rule, rules, holds_by, holds}

@@ -1,15 +1,9 @@
 -- The tables say what the rules say: tests that antt computes, for every state and name. Assumes nothing.
-use mathlib.Core.Path.{◌≡◌, refl, sym}
-use mathlib.Core.Bool.{Bool, true, false, ◌&&◌}
-use mathlib.Core.List.{List, [], ◌∷◌, cons≢nil, head-eq_of_cons-eq, tail-eq_of_cons-eq}
-use Prim.Native.Nat.{ℕ, ◌+◌, ◌*◌, ◌/◌, ◌%◌, ◌<◌}
+use Rattle.std.proofs.Common.{Option, Some, None, ◌≡◌, refl, sym, Bool, true, false, ◌&&◌, List, [], ◌∷◌, ℕ, ◌+◌, ◌*◌, ◌/◌, ◌%◌, ◌<◌, arith, T, eqb, leb, ltb, eqb→eq, leb→le, ltb→lt, length, get_or}
+use mathlib.Core.List.{cons≢nil, head-eq_of_cons-eq, tail-eq_of_cons-eq}
 use native.Mathlib.Decide.{ℕ_discrete}
-use native.Mathlib.Omega.{arith}
-use lib.Dec.{T, eqb, leb, ltb, eqb→eq, leb→le, ltb→lt}
-use lib.ListN.{length, get_or}
 use Rattle.lent.proofs.Computed.{and_left, and_right, all_below, computed}
 use Rattle.check_nesting.specs.declared.Entry.{Entry}
-use Rattle.check_nesting.specs.declared.Entry.TheVariants.{Refused, Into}
 use Rattle.check_nesting.specs.Grammar.{Item-discrete, name_count}
 use Rattle.check_nesting.specs.Pass.{Rest, Rest-discrete, Turn, refused, entered, turn, may_end}
 use Rattle.check_nesting.specs.Tables.{state, IsState, Enters, looked, flag, Tables}
@@ -48,17 +42,18 @@ is r x = ltb x 48 && decided (rests (state x) r)
 is_state : (r : Rest) (x : ℕ) → T (is r x) → IsState r x
 is_state r x t = (ltb→lt x 48 (and_left (ltb x 48) (decided (rests (state x) r)) t), holds (rests (state x) r) (and_right (ltb x 48) (decided (rests (state x) r)) t))
 
-abbrev enters_by : Turn → Entry → Bool
-enters_by refused Refused = true
-enters_by refused (Into x y) = false
-enters_by (entered inside behind) Refused = false
-enters_by (entered inside behind) (Into x y) = is inside x && is behind y
+abbrev enters_by : Turn → Option Entry → Bool
+enters_by refused None = true
+enters_by refused (Some x) = false
+enters_by (entered inside behind) None = false
+enters_by (entered inside behind) (Some x) = is inside x.inside && is behind x.behind
 
-enters-by : (t : Turn) (e : Entry) → T (enters_by t e) → Enters t e
-enters-by refused Refused p = tt
-enters-by refused (Into x y) p = p
-enters-by (entered inside behind) Refused p = p
-enters-by (entered inside behind) (Into x y) p = (is_state inside x (and_left (is inside x) (is behind y) p), is_state behind y (and_right (is inside x) (is behind y) p))
+enters-by : (t : Turn) (e : Option Entry) → T (enters_by t e) → Enters t e
+enters-by refused None p = tt
+enters-by refused (Some x) p = p
+enters-by (entered inside behind) None p = p
+enters-by (entered inside behind) (Some x) p =
+    (is_state inside x.inside (and_left (is inside x.inside) (is behind x.behind) p), is_state behind x.behind (and_right (is inside x.inside) (is behind x.behind) p))
 
 module _ (ss es : List ℕ) where
   -- all names to a state

@@ -1,15 +1,5 @@
 -- A list that passes nests: its forest grows tag by tag. Assumes nothing.
-use Rattle.std.specs.Prelude.{if◌then◌else◌}
-use mathlib.Core.Path.{◌≡◌, refl, sym, ap, ◌∙◌}
-use mathlib.Core.Logic.{◌↔◌}
-use mathlib.Core.Bool.{Bool, true, false}
-use mathlib.Core.List.{List, [], ◌∷◌, ◌++◌}
-use Prim.Native.Nat.{ℕ, zero, suc, ◌+◌, ◌-◌, ◌≤◌, ◌<◌}
-use native.Mathlib.Omega.{arith}
-use lib.Dec.{leb}
-use lib.ListN.{length}
-use borrow.Author.Tests.{leb-true, leb-false}
-use Rattle.check_nesting.specs.declared.Nesting.TheVariants.{Yes, At}
+use Rattle.std.proofs.Common.{if◌then◌else◌, Some, None, ◌≡◌, refl, sym, ap, ◌∙◌, ◌↔◌, Bool, true, false, List, [], ◌∷◌, ◌++◌, ℕ, zero, suc, ◌+◌, ◌-◌, ◌≤◌, ◌<◌, arith, leb, length, leb-true, leb-false}
 use Rattle.check_nesting.specs.Grammar.{Item, holds, whole}
 use Rattle.check_nesting.specs.Tag.{Tag, enter, exit}
 use Rattle.check_nesting.specs.Nests.{Forest, nil, tree, events, depth, Children, none, through, empty, child, NestsWithin, Nests}
@@ -38,7 +28,7 @@ way q n = pick (leb n 2) (leb n 4) (next q n) refl refl refl
     pick false false refuse x y z = by-none
     pick false false (take k r) x y z = by-child (leb-false n 4 y) z
 
-no : {A : Type 0} {i : ℕ} → At i ≡ Yes → A
+no : {A : Type 0} {i : ℕ} → Some i ≡ None → A
 no e = let z : ◌≡◌ {A = ℕ} 0 1 = cc in absurd (omega arith)
 
 -- the first tag of a list that passes
@@ -47,9 +37,9 @@ pub record On (most : ℕ) (r : Rest) (os : List Open) (t : Tag) (ts : List Tag)
   pub now-open : List Open
   pub move : Moves most t r os (go to now-open)
   pub at : ℕ
-  pub more : nest_from most at to now-open ts ≡ Yes
+  pub more : nest_from most at to now-open ts ≡ None
 
-pub on : (most i : ℕ) (r : Rest) (os : List Open) (t : Tag) (ts : List Tag) → nest_from most i r os (t ∷ ts) ≡ Yes → On most r os t ts
+pub on : (most i : ℕ) (r : Rest) (os : List Open) (t : Tag) (ts : List Tag) → nest_from most i r os (t ∷ ts) ≡ None → On most r os t ts
 on most i r os t ts e = elim (first most t r os) [
   | refuses f ↦ no (sym (f i ts) ∙ e)
   | moves r' os' m ↦ record { to = r'; now-open = os'; move = m; at = i + 1; more = sym (goes i ts m) ∙ e }
@@ -66,21 +56,21 @@ record Left (most n : ℕ) (os : List Open) (ts : List Tag) (r : Rest) : Type 0 
   after : List Tag
   cut : ts ≡ exit n ∷ after
   at : ℕ
-  more : nest_from most at r os after ≡ Yes
+  more : nest_from most at r os after ≡ None
 
 module _ (most n : ℕ) (behind r : Rest) (os : List Open) where
-  left_by : (m : ℕ) (ts : List Tag) {r' : Rest} {os' : List Open} → Moves most (exit m) r (opens n behind ∷ os) (go r' os') → (i : ℕ) → nest_from most i r' os' ts ≡ Yes
+  left_by : (m : ℕ) (ts : List Tag) {r' : Rest} {os' : List Open} → Moves most (exit m) r (opens n behind ∷ os) (go r' os') → (i : ℕ) → nest_from most i r' os' ts ≡ None
       → (n ≤ 2 → Left most n os (exit m ∷ ts) r) × (2 < n → Left most n os (exit m ∷ ts) behind × (may_end r ≡ true))
   left_by m ts (leaves e l) i p = (λ h. record { after = ts; cut = rw e; at = i; more = p }, λ h. absurd (omega arith))
   left_by m ts (closes e l d) i p = (λ h. absurd (omega arith), λ h. (record { after = ts; cut = rw e; at = i; more = p }, d))
 
-  left : (i : ℕ) (ts : List Tag) → Exits ts → nest_from most i r (opens n behind ∷ os) ts ≡ Yes → (n ≤ 2 → Left most n os ts r) × (2 < n → Left most n os ts behind × (may_end r ≡ true))
+  left : (i : ℕ) (ts : List Tag) → Exits ts → nest_from most i r (opens n behind ∷ os) ts ≡ None → (n ≤ 2 → Left most n os ts r) × (2 < n → Left most n os ts behind × (may_end r ≡ true))
   left i [] x e = no (sym (open-end most i r (opens n behind) os) ∙ e)
   left i (enter m ∷ ts) x e = absurd x
   left i (exit m ∷ ts) x e = let o = on most i r (opens n behind ∷ os) (exit m) ts e in left_by m ts o.move o.at o.more
 
 -- nothing comes in 3 and 4
-shut-exits : (most i : ℕ) (os : List Open) (ts : List Tag) → nest_from most i shut os ts ≡ Yes → Exits ts
+shut-exits : (most i : ℕ) (os : List Open) (ts : List Tag) → nest_from most i shut os ts ≡ None → Exits ts
 unfolding turn
 shut-exits most i os [] e = tt
 shut-exits most i os (enter n ∷ ts) e = never (on most i shut os (enter n) ts e).move
@@ -89,7 +79,7 @@ shut-exits most i os (enter n ∷ ts) e = never (on most i shut os (enter n) ts 
     never (enters l e) = let z : ◌≡◌ {A = ℕ} 0 1 = cc in omega arith
 shut-exits most i os (exit n ∷ ts) e = tt
 
-none_left : (most i : ℕ) (r : Rest) (ts : List Tag) → Exits ts → nest_from most i r [] ts ≡ Yes → ts ≡ []
+none_left : (most i : ℕ) (r : Rest) (ts : List Tag) → Exits ts → nest_from most i r [] ts ≡ None → ts ≡ []
 none_left most i r [] x e = refl
 none_left most i r (enter n ∷ ts) x e = absurd x
 none_left most i r (exit n ∷ ts) x e = no (sym (stops most i (exit n) ts r [] (none_open most n r)) ∙ e)
@@ -107,12 +97,12 @@ record Grown (most : ℕ) (q : List Item) (os : List Open) (ts : List Tag) : Typ
   deep : depth forest ≤ most - length os
   shorter : length after ≤ length ts
   exits : Exits after
-  more : nest_from most at (rest end) os after ≡ Yes
+  more : nest_from most at (rest end) os after ≡ None
 
 abbrev Grow : (most fuel : ℕ) → Type 0
-Grow most fuel = (ts : List Tag) → length ts ≤ fuel → (i : ℕ) (q : List Item) (os : List Open) → nest_from most i (rest q) os ts ≡ Yes → Grown most q os ts
+Grow most fuel = (ts : List Tag) → length ts ≤ fuel → (i : ℕ) (q : List Item) (os : List Open) → nest_from most i (rest q) os ts ≡ None → Grown most q os ts
 
-bare : (most i : ℕ) (q : List Item) (os : List Open) (ts : List Tag) → Exits ts → nest_from most i (rest q) os ts ≡ Yes → Grown most q os ts
+bare : (most i : ℕ) (q : List Item) (os : List Open) (ts : List Tag) → Exits ts → nest_from most i (rest q) os ts ≡ None → Grown most q os ts
 bare most i q os ts x e =
     record {
       forest = nil;
@@ -151,7 +141,7 @@ planted n cs ks e d l g c s =
     }
 
 module _ (most fuel : ℕ) (ih : Grow most fuel) (n : ℕ) (ts : List Tag) (h : length ts ≤ fuel) (q : List Item) (os : List Open) where
-  grow-in : {inside behind : Rest} → length os < most → Way q n (entered inside behind) → (i : ℕ) → nest_from most i inside (opens n behind ∷ os) ts ≡ Yes → Grown most q os (enter n ∷ ts)
+  grow-in : {inside behind : Rest} → length os < most → Way q n (entered inside behind) → (i : ℕ) → nest_from most i inside (opens n behind ∷ os) ts ≡ None → Grown most q os (enter n ∷ ts)
   grow-in l (by-through k) i e =
       let g = ih ts h i q (opens n (rest q) ∷ os) e in
       let x = (left most n (rest q) (rest g.end) os g.at g.after g.exits g.more).0 k in
@@ -175,7 +165,7 @@ module _ (most fuel : ℕ) (ih : Grow most fuel) (n : ℕ) (ts : List Tag) (h : 
       (rw p at (child {k = k} (omega arith) (steps-takes g.steps y.1) g.fits f.fits))
       (along (rw p w) f.steps)
 
-  grow-enter : {r : Rest} {os' : List Open} → Moves most (enter n) (rest q) os (go r os') → (i : ℕ) → nest_from most i r os' ts ≡ Yes → Grown most q os (enter n ∷ ts)
+  grow-enter : {r : Rest} {os' : List Open} → Moves most (enter n) (rest q) os (go r os') → (i : ℕ) → nest_from most i r os' ts ≡ None → Grown most q os (enter n ∷ ts)
   grow-enter (enters l t) i e = grow-in l (rw t at (way q n)) i e
 
 grow : (most fuel : ℕ) → Grow most fuel
@@ -187,7 +177,7 @@ grow most (suc fuel) (enter n ∷ ts) h i q os e =
     let o = on most i (rest q) os (enter n) ts e in
     grow-enter most fuel (λ us l j r ps p. grow most fuel us l j r ps p) n ts (omega arith) q os o.move o.at o.more
 
-pub yes-within : (most : ℕ) (ts : List Tag) → nest_from most 0 (rest whole) [] ts ≡ Yes → NestsWithin most ts
+pub yes-within : (most : ℕ) (ts : List Tag) → nest_from most 0 (rest whole) [] ts ≡ None → NestsWithin most ts
 yes-within most ts e =
     let g = grow most (length ts) ts (omega arith) 0 whole [] e in
     let t = still-whole g.steps refl in
@@ -200,10 +190,10 @@ yes-within most ts e =
       deep = omega (arith, g.deep);
     }
 
-pub yes-nests : (ts : List Tag) → nest_of ts ≡ Yes → Nests ts
+pub yes-nests : (ts : List Tag) → nest_of ts ≡ None → Nests ts
 unfolding nest_of
 yes-nests ts e = yes-within 64 ts e
 
 -- the pass says yes exactly where the list nests
-pub exactly : (ts : List Tag) → (nest_of ts ≡ Yes) ↔ Nests ts
+pub exactly : (ts : List Tag) → (nest_of ts ≡ None) ↔ Nests ts
 exactly ts = (yes-nests ts, nests-yes ts)

@@ -1,24 +1,12 @@
 -- A turn of the walk, over plain lists. Assumes nothing.
-use mathlib.Core.Path.{◌≡◌, refl, sym, ap, ◌∙◌}
-use mathlib.Core.Logic.{◌≢◌}
-use mathlib.Core.List.{List, [], ◌∷◌}
-use Prim.Native.Nat.{ℕ, zero, suc, ◌+◌, ◌-◌, ◌*◌, ◌/◌, ◌≤◌, ◌<◌}
-use native.Mathlib.Nat.{add-zero, sub-zero}
-use native.Mathlib.Numerals.{add-one}
-use native.Mathlib.Omega.{arith}
-use lib.ListN.{length, drop, get_or, set, length-set}
-use lib.Seq.{drop-drop, get_or-drop, get_or-set_same, get_or-set_other}
-use borrow.Author.Tests.{ne_eqb}
-use borrow.Author.Count.{below_more}
-use Rattle.check_nesting.specs.declared.Nesting.{Nesting}
-use Rattle.check_nesting.specs.declared.Nesting.TheVariants.{Yes, At}
-use Rattle.check_nesting.specs.declared.Entry.{Entry}
-use Rattle.check_nesting.specs.declared.Entry.TheVariants.{Refused, Into}
-use Rattle.check_nesting.specs.declared.Exit.{Exit}
-use Rattle.check_nesting.specs.declared.Exit.TheVariants.{Stays, To}
+use Rattle.std.proofs.Common.{Option, Some, None, ◌≡◌, refl, sym, ap, ◌∙◌, Bool, true, false, ◌≢◌, inl, inr, List, [], ◌∷◌, ℕ, zero, suc, ◌+◌, ◌-◌, ◌*◌, ◌/◌, ◌≤◌, ◌<◌, add-zero, add-one, arith, length, drop, get_or, set, drop-drop, get_or-drop, get_or-set_same, get_or-set_other, ne_eqb, eqb-true, eqb}
+use native.Mathlib.Nat.{sub-zero}
+use borrow.Author.Tests.{eqb-false}
+use Rattle.check_nesting.specs.declared.stack.Nesting.{Nesting}
 use Rattle.check_nesting.specs.Tag.{Tag, enter, exit, tag_of, tags, tags_of}
 use Rattle.check_nesting.specs.Pass.{Rest, turn, leave, Open, stop, go, step, nest_from, nest_of}
-use Rattle.check_nesting.specs.Tables.{states, state, Enters, Leaves}
+use Rattle.check_nesting.specs.Tables.{states, state}
+use Rattle.check_nesting.specs.Moved.{newest_of, Opens, Closes, Advances}
 use Rattle.check_nesting.proofs.Step.{stops, goes, closed-end, open-end, none_open, too_many, not_entered, not_left, is-left, Moves, enters, by-step}
 use Rattle.check_nesting.proofs.Look.{is-refused, is-entered, stays, leaves_to}
 
@@ -40,21 +28,17 @@ stack-kept (suc d) e ns bs x y h =
 
 -- ---- what is left, from the tag i on
 
-abbrev pub left : List ℕ → List ℕ → List ℕ → ℕ → ℕ → ℕ → Nesting
-left b ns bs d q i = nest_from 64 i (state q) (stack_of d ns bs) (tags (length b / 20 - i) (drop (i * 20) b))
+abbrev pub left : List ℕ → Nesting → ℕ → Option ℕ
+left b v i = nest_from 64 i (state v.here) (stack_of v.depth v.names v.behind) (tags (length b / 20 - i) (drop (i * 20) b))
 
-pub record Inv (b ns bs : List ℕ) (d q i : ℕ) : Type 0 where
+-- before the tag i it is what the whole says
+pub record Inv (b : List ℕ) (v : Nesting) (i : ℕ) : Type 0 where
   pub within : i ≤ length b / 20
-  pub deep : d ≤ 64
-  pub names-long : length ns ≡ 64
-  pub behind-long : length bs ≡ 64
-  pub in-states : q < 48
-  pub all-states : (j : ℕ) → j < d → get_or bs j 0 < 48
-  pub same : left b ns bs d q i ≡ nest_of (tags_of b)
+  pub same : left b v i ≡ nest_of (tags_of b)
 
 -- ---- a turn of the loop
 
-module _ {b ns bs : List ℕ} {d q i : ℕ} (v : Inv b ns bs d q i) (more : i < length b / 20) where
+module _ {b : List ℕ} {v : Nesting} {i : ℕ} (x : Inv b v i) (more : i < length b / 20) where
   abbrev kind : ℕ
   kind = get_or b (i * 20) 0
 
@@ -68,7 +52,7 @@ module _ {b ns bs : List ℕ} {d q i : ℕ} (v : Inv b ns bs d q i) (more : i < 
   behind = tags (length b / 20 - (i + 1)) (drop ((i + 1) * 20) b)
 
   abbrev os : List Open
-  os = stack_of d ns bs
+  os = stack_of v.depth v.names v.behind
 
   cut : here ≡ tag_of kind name ∷ behind
   cut =
@@ -83,82 +67,74 @@ module _ {b ns bs : List ℕ} {d q i : ℕ} (v : Inv b ns bs d q i) (more : i < 
   exiting k = cut ∙ rw (ne_eqb kind 0 k)
 
   abbrev top : Open
-  top = record { name = get_or ns (d - 1) 0; behind = state (get_or bs (d - 1) 0) }
+  top = newest_of v.names v.behind v.depth
 
-  newest : (d ≡ 0 → ⊥) → os ≡ top ∷ stack_of (d - 1) ns bs
-  newest h = let e : d ≡ suc (d - 1) = omega arith in ap (λ (x : ℕ). stack_of x ns bs) e
+  abbrev older : List Open
+  older = stack_of (v.depth - 1) v.names v.behind
 
-  refuse : (t : Tag) → here ≡ t ∷ behind → step 64 t (state q) os ≡ stop → At i ≡ nest_of (tags_of b)
-  refuse t p e = sym (stops 64 i t behind (state q) os e) ∙ (rw p at v.same)
+  newest : (v.depth ≡ 0 → ⊥) → os ≡ top ∷ older
+  newest h = let e : v.depth ≡ suc (v.depth - 1) = omega arith in ap (λ (x : ℕ). stack_of x v.names v.behind) e
 
-  pass : {t : Tag} {r : Rest} {ps : List Open} → here ≡ t ∷ behind → Moves 64 t (state q) os (go r ps) → nest_from 64 (i + 1) r ps behind ≡ nest_of (tags_of b)
-  pass p m = sym (goes i behind m) ∙ (rw p at v.same)
+  refuse : (t : Tag) → here ≡ t ∷ behind → step 64 t (state v.here) os ≡ stop → Some i ≡ nest_of (tags_of b)
+  refuse t p e = sym (stops 64 i t behind (state v.here) os e) ∙ (rw p at x.same)
 
-  pub too-deep : kind ≡ 0 → d ≡ 64 → At i ≡ nest_of (tags_of b)
-  too-deep k e = refuse (enter name) (entering k) (too_many 64 name (state q) os (omega (arith, stack-length d ns bs)))
+  pass : {t : Tag} {r : Rest} {ps : List Open} → here ≡ t ∷ behind → Moves 64 t (state v.here) os (go r ps) → nest_from 64 (i + 1) r ps behind ≡ nest_of (tags_of b)
+  pass p m = sym (goes i behind m) ∙ (rw p at x.same)
 
-  pub untaken : (r : Entry) → kind ≡ 0 → Enters (turn (state q) name) r → r ≡ Refused → At i ≡ nest_of (tags_of b)
-  untaken r k a e = refuse (enter name) (entering k) (not_entered 64 name (state q) os (is-refused (turn (state q) name) (rw e at a)))
+  unopened : kind ≡ 0 → (w : Nesting) → Opens v name false w → Some i ≡ nest_of (tags_of b)
+  unopened k w (e, inl f) = refuse (enter name) (entering k) (too_many 64 name (state v.here) os (omega (arith, stack-length v.depth v.names v.behind)))
+  unopened k w (e, inr a) = refuse (enter name) (entering k) (not_entered 64 name (state v.here) os (is-refused (turn (state v.here) name) a))
 
-  pub taken : (r : Entry) (x y : ℕ) → kind ≡ 0 → (d ≡ 64 → ⊥) → Enters (turn (state q) name) r → r ≡ Into x y → Inv b (set ns d name) (set bs d y) (d + 1) x (i + 1)
-  taken r x y k l a e =
-      let w = is-entered q name (turn (state q) name) x y refl (rw e at a) in
-      let f : d < 64 = omega (arith, v.deep) in
-      let m : d < length ns = omega (arith, v.names-long) in
-      let n : d < length bs = omega (arith, v.behind-long) in
-      let s : stack_of (d + 1) (set ns d name) (set bs d y) ≡ record { name = name; behind = state y } ∷ os =
-      rw (add-one d, get_or-set_same ns d name 0 m, get_or-set_same bs d y 0 n, stack-kept d d ns bs name y (omega arith)) in
-      record {
-        within = omega arith;
-        deep = omega arith;
-        names-long = length-set ns d name ∙ v.names-long;
-        behind-long = length-set bs d y ∙ v.behind-long;
-        in-states = w.inside-state;
-        all-states = below_more _ _ (λ j h. rw (get_or-set_other bs d j y 0 (λ p. omega arith)) (v.all-states j h)) (rw (get_or-set_same bs d y 0 n) w.behind-state);
-        same = rw s (pass (entering k) (enters (rw stack-length f) w.turns));
-      }
+  is-opened : kind ≡ 0 → (w : Nesting) → Opens v name true w → Inv b w (i + 1)
+  is-opened k w (y, l, d, ns, bs, a) =
+      let t = is-entered v.here name (turn (state v.here) name) w.here y refl a in
+      let f : v.depth < 64 = omega (arith, v.deep) in
+      let m : v.depth < length v.names = omega (arith, v.names_long) in
+      let n : v.depth < length v.behind = omega (arith, v.behind_long) in
+      let s : stack_of (v.depth + 1) (set v.names v.depth name) (set v.behind v.depth y) ≡ record { name = name; behind = state y } ∷ os =
+      rw (add-one v.depth, get_or-set_same v.names v.depth name 0 m, get_or-set_same v.behind v.depth y 0 n, stack-kept v.depth v.depth v.names v.behind name y (omega arith)) in
+      record { within = omega arith; same = rw (d, ns, bs, s) (pass (entering k) (enters (rw stack-length f) t.turns)) }
 
-  pub unopened : (kind ≡ 0 → ⊥) → d ≡ 0 → At i ≡ nest_of (tags_of b)
-  unopened k e = refuse (exit name) (exiting k) (rw e (none_open 64 name (state q)))
+  unclosed : (kind ≡ 0 → ⊥) → (w : Nesting) → Closes v name false w → Some i ≡ nest_of (tags_of b)
+  unclosed k w (e, inl f) = refuse (exit name) (exiting k) (rw f (none_open 64 name (state v.here)))
+  unclosed k w (e, inr a) = refuse (exit name) (exiting k) (rw (newest a.0) (not_left 64 name (state v.here) top older (stays (leave (state v.here) top name) a.1)))
 
-  pub unleft : (r : Exit) → (kind ≡ 0 → ⊥) → (d ≡ 0 → ⊥) → Leaves (leave (state q) top name) r → r ≡ Stays → At i ≡ nest_of (tags_of b)
-  unleft r k h a e = refuse (exit name) (exiting k) (rw (newest h) (not_left 64 name (state q) top (stack_of (d - 1) ns bs) (stays (leave (state q) top name) (rw e at a))))
+  is-closed : (kind ≡ 0 → ⊥) → (w : Nesting) → Closes v name true w → Inv b w (i + 1)
+  is-closed k w (h, d, ns, bs, a) =
+      let t = leaves_to (leave (state v.here) top name) w.here a in
+      record { within = omega arith; same = rw (d, ns, bs) (pass (exiting k) (rw (newest h) (by-step (is-left 64 name (state v.here) top older t.1)))) }
 
-  pub left-to : (r : Exit) (x : ℕ) → (kind ≡ 0 → ⊥) → (d ≡ 0 → ⊥) → Leaves (leave (state q) top name) r → r ≡ To x → Inv b ns bs (d - 1) x (i + 1)
-  left-to r x k h a e =
-      let w = leaves_to (leave (state q) top name) x (rw e at a) in
-      record {
-        within = omega arith;
-        deep = omega (arith, v.deep);
-        names-long = v.names-long;
-        behind-long = v.behind-long;
-        in-states = w.0;
-        all-states = λ j m. v.all-states j (omega arith);
-        same = pass (exiting k) (rw (newest h) (by-step (is-left 64 name (state q) top (stack_of (d - 1) ns bs) w.1)));
-      }
+  module _ {n : ℕ} (p : get_or b (i * 20 + 1) 0 ≡ n) {y : Bool} (k : y ≡ eqb (get_or b (i * 20) 0) 0) (r : Bool) (w : Nesting) (a : Advances y v n r w) where
+    here-named : Advances y v name r w
+    here-named = rw p a
 
-module _ {b ns bs : List ℕ} {d q i : ℕ} (v : Inv b ns bs d q i) (end : length b / 20 ≤ i) where
+    pub walk-stops : r ≡ false → Some i ≡ nest_of (tags_of b)
+    walk-stops z = go y k (rw z at here-named)
+      where
+        go : (y : Bool) → y ≡ eqb (get_or b (i * 20) 0) 0 → Advances y v name false w → Some i ≡ nest_of (tags_of b)
+        go true e o = unopened (eqb-true (get_or b (i * 20) 0) 0 (sym e)) w o
+        go false e o = unclosed (eqb-false (get_or b (i * 20) 0) 0 (sym e)) w o
+
+    pub walk-goes : r ≡ true → Inv b w (i + 1)
+    walk-goes z = go y k (rw z at here-named)
+      where
+        go : (y : Bool) → y ≡ eqb (get_or b (i * 20) 0) 0 → Advances y v name true w → Inv b w (i + 1)
+        go true e o = is-opened (eqb-true (get_or b (i * 20) 0) 0 (sym e)) w o
+        go false e o = is-closed (eqb-false (get_or b (i * 20) 0) 0 (sym e)) w o
+
+module _ {b : List ℕ} {v : Nesting} {i : ℕ} (x : Inv b v i) (end : length b / 20 ≤ i) where
   none_left : tags (length b / 20 - i) (drop (i * 20) b) ≡ []
   none_left = let z : length b / 20 - i ≡ 0 = omega arith in rw z
 
-  pub all_closed : d ≡ 0 → Yes ≡ nest_of (tags_of b)
-  all_closed e = sym (closed-end 64 i (state q)) ∙ (rw (none_left, e) at v.same)
+  pub all_closed : v.depth ≡ 0 → None ≡ nest_of (tags_of b)
+  all_closed e = sym (closed-end 64 i (state v.here)) ∙ (rw (none_left, e) at x.same)
 
-  pub left_open : (d ≡ 0 → ⊥) → At (length b / 20) ≡ nest_of (tags_of b)
+  pub left_open : (v.depth ≡ 0 → ⊥) → Some (length b / 20) ≡ nest_of (tags_of b)
   left_open h =
-      let p : i ≡ length b / 20 = omega (arith, v.within) in
-      let s : d ≡ suc (d - 1) = omega arith in
-      ap At (sym p) ∙ sym (open-end 64 i (state q) _ (stack_of (d - 1) ns bs)) ∙ (rw (none_left, s) at v.same)
+      let p : i ≡ length b / 20 = omega (arith, x.within) in
+      let s : v.depth ≡ suc (v.depth - 1) = omega arith in
+      ap Some (sym p) ∙ sym (open-end 64 i (state v.here) _ (stack_of (v.depth - 1) v.names v.behind)) ∙ (rw (none_left, s) at x.same)
 
-pub at_first : (b ns bs : List ℕ) → length ns ≡ 64 → length bs ≡ 64 → Inv b ns bs 0 1 0
+pub at_first : (b : List ℕ) (v : Nesting) → v.depth ≡ 0 → v.here ≡ 1 → Inv b v 0
 unfolding nest_of state states
-at_first b ns bs h k =
-    record {
-      within = omega arith;
-      deep = omega arith;
-      names-long = h;
-      behind-long = k;
-      in-states = omega arith;
-      all-states = λ j m. absurd (omega arith);
-      same = rw sub-zero;
-    }
+at_first b v d h = record { within = omega arith; same = rw (d, h, sub-zero) }

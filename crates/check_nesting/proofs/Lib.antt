@@ -9,4 +9,3 @@ pub mod Passes
 pub mod Grows
 pub mod Fault
 pub mod Ahead
-pub mod Arrays

@@ -1,11 +1,6 @@
 -- A list that nests passes. Assumes nothing.
-use mathlib.Core.Path.{◌≡◌, refl, ◌∙◌}
-use mathlib.Core.List.{List, [], ◌∷◌}
-use Prim.Native.Nat.{ℕ, ◌+◌, ◌≤◌, ◌<◌}
-use native.Mathlib.Omega.{arith}
-use lib.ListN.{length}
-use borrow.Author.Tests.{le-leb, lt-leb}
-use Rattle.check_nesting.specs.declared.Nesting.TheVariants.{Yes}
+use Rattle.std.proofs.Common.{None, ◌≡◌, refl, ◌∙◌, List, [], ◌∷◌, ℕ, ◌+◌, ◌≤◌, ◌<◌, arith, length, le-leb}
+use borrow.Author.Tests.{lt-leb}
 use Rattle.check_nesting.specs.Grammar.{Item, name_of, holds, whole}
 use Rattle.check_nesting.specs.Tag.{Tag, enter, exit}
 use Rattle.check_nesting.specs.Nests.{Forest, nil, events, depth, Children, none, through, empty, child, NestsWithin, Nests}
@@ -15,7 +10,7 @@ use Rattle.check_nesting.proofs.Steps.{Steps, stay, along, takes-steps, steps-sp
 use Rattle.check_nesting.proofs.Step.{closed-end, Moves, enters, leaves, closes, goes}
 
 abbrev pub Passes : (most : ℕ) → Rest → List Open → List Tag → Type 0
-Passes most r os ts = (i : ℕ) → nest_from most i r os ts ≡ Yes
+Passes most r os ts = (i : ℕ) → nest_from most i r os ts ≡ None
 
 abbrev pub opens : ℕ → Rest → Open
 opens n behind = record { name = n; behind = behind }
@@ -68,6 +63,6 @@ passes-within most ts w =
     let d : 0 + depth w.forest ≤ most = omega (arith, w.deep) in
     rw w.same (pass most w.fits whole c.0 c.1 [] [] d (λ i. closed-end most i (rest c.0)))
 
-pub nests-yes : (ts : List Tag) → Nests ts → nest_of ts ≡ Yes
+pub nests-yes : (ts : List Tag) → Nests ts → nest_of ts ≡ None
 unfolding nest_of
 nests-yes ts w = passes-within 64 ts w 0

@@ -1,15 +1,6 @@
 -- The pass, tag by tag: where it stops, and each way to go on. Assumes nothing.
-use Rattle.std.specs.Prelude.{if◌then◌else◌}
-use mathlib.Core.Path.{◌≡◌, refl, ap}
-use mathlib.Core.Bool.{Bool, true, false, cond, ◌&&◌, ◌||◌}
-use mathlib.Core.List.{List, [], ◌∷◌}
-use mathlib.Core.Option.{none, some}
-use Prim.Native.Nat.{ℕ, ◌+◌, ◌≤◌, ◌<◌}
-use native.Mathlib.Omega.{arith}
-use lib.ListN.{length}
-use lib.Dec.{eqb, leb}
-use borrow.Author.Tests.{eq-eqb, le-leb, lt-leb, eqb-true, leb-true, leb-false}
-use Rattle.check_nesting.specs.declared.Nesting.TheVariants.{Yes, At}
+use Rattle.std.proofs.Common.{if◌then◌else◌, Some, None, ◌≡◌, refl, ap, Bool, true, false, cond, ◌&&◌, ◌||◌, List, [], ◌∷◌, ℕ, ◌+◌, ◌≤◌, ◌<◌, arith, length, eqb, leb, eq-eqb, le-leb, eqb-true, leb-true, leb-false}
+use borrow.Author.Tests.{lt-leb}
 use Rattle.check_nesting.specs.Tag.{Tag, enter, exit, open_behind}
 use Rattle.check_nesting.specs.Pass as P
 use Rattle.check_nesting.specs.Pass.{Rest, shut, rest, Turn, refused, entered, turn, may_end, Open, Step, stop, go, opened, leave, step, nest_from}
@@ -19,17 +10,17 @@ use Rattle.check_nesting.specs.Grammar.{name_count}
 -- ---- the end
 
 module _ (most i : ℕ) (r : Rest) where
-  pub closed-end : nest_from most i r [] [] ≡ Yes
+  pub closed-end : nest_from most i r [] [] ≡ None
   unfolding nest_from
   closed-end = refl
 
-  pub open-end : (o : Open) (os : List Open) → nest_from most i r (o ∷ os) [] ≡ At i
+  pub open-end : (o : Open) (os : List Open) → nest_from most i r (o ∷ os) [] ≡ Some i
   unfolding nest_from
   open-end o os = refl
 
 -- ---- where it stops
 
-pub stops : (most i : ℕ) (t : Tag) (ts : List Tag) (r : Rest) (os : List Open) → step most t r os ≡ stop → nest_from most i r os (t ∷ ts) ≡ At i
+pub stops : (most i : ℕ) (t : Tag) (ts : List Tag) (r : Rest) (os : List Open) → step most t r os ≡ stop → nest_from most i r os (t ∷ ts) ≡ Some i
 unfolding nest_from
 stops most i t ts r os e = rw (e, nest_from)
 
@@ -56,11 +47,11 @@ unfolding step
 none_open most n r = refl
 
 module _ (most n : ℕ) (r : Rest) (o : Open) (os : List Open) where
-  pub not_left : leave r o n ≡ none → step most (exit n) r (o ∷ os) ≡ stop
+  pub not_left : leave r o n ≡ None → step most (exit n) r (o ∷ os) ≡ stop
   unfolding step
   not_left e = rw e
 
-  pub is-left : {r' : Rest} → leave r o n ≡ some r' → step most (exit n) r (o ∷ os) ≡ go r' os
+  pub is-left : {r' : Rest} → leave r o n ≡ Some r' → step most (exit n) r (o ∷ os) ≡ go r' os
   unfolding step
   is-left e = rw e
 
@@ -85,7 +76,7 @@ view most (exit n) r [] = halts
 view most (exit n) r (o ∷ os) = pick (eqb o.name n) (leb n 2) (may_end r) refl refl refl
   where
     pick : (a b c : Bool) → eqb o.name n ≡ a → leb n 2 ≡ b → may_end r ≡ c
-        → Moves most (exit n) r (o ∷ os) (P.closed os (if a && (b || c) then some (if b then r else o.behind) else none))
+        → Moves most (exit n) r (o ∷ os) (P.closed os (if a && (b || c) then Some (if b then r else o.behind) else None))
     pick false b c p l m = halts
     pick true true c p l m = leaves (eqb-true o.name n p) (leb-true n 2 l)
     pick true false true p l m = closes (eqb-true o.name n p) (leb-false n 2 l) m
@@ -124,7 +115,7 @@ under bound (closes e l m) h = closes e l m
 
 -- ---- what the first tag does, whatever stands behind it
 pub data First (most : ℕ) (t : Tag) (r : Rest) (os : List Open) : Type 0 where
-  refuses : ((i : ℕ) (ts : List Tag) → nest_from most i r os (t ∷ ts) ≡ At i) → First most t r os
+  refuses : ((i : ℕ) (ts : List Tag) → nest_from most i r os (t ∷ ts) ≡ Some i) → First most t r os
   moves : (r' : Rest) (os' : List Open) → Moves most t r os (go r' os') → First most t r os
 
 pub first : (most : ℕ) (t : Tag) (r : Rest) (os : List Open) → First most t r os

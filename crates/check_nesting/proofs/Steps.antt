@@ -1,9 +1,5 @@
 -- Children, one after the other. Assumes nothing.
-use mathlib.Core.Path.{◌≡◌}
-use mathlib.Core.Logic.{⊎_elim}
-use mathlib.Core.Bool.{true}
-use mathlib.Core.List.{List, [], ◌∷◌, ◌++◌}
-use Prim.Native.Nat.{ℕ}
+use Rattle.std.proofs.Common.{◌≡◌, ⊎_elim, true, List, [], ◌∷◌, ◌++◌, ℕ}
 use Rattle.lent.proofs.Laws.{and_right}
 use Rattle.check_nesting.specs.Grammar.{Item, one, opt, any, chain, flow, whole, name_of}
 use Rattle.check_nesting.specs.Nests.{Takes}

@@ -1,8 +1,5 @@
--- The pass for 4: the list nests, or the event at which it does not. Assumes nothing.
-use Rattle.std.specs.Prelude.{Bool, true, false, ◌&&◌, ◌||◌, List, [], ◌∷◌, ℕ, ◌+◌, eqb, leb, length, if◌then◌else◌}
-use Rattle.std.proofs.Math.Option.{Option, none, some}
-use Rattle.check_nesting.specs.declared.Nesting.{Nesting}
-use Rattle.check_nesting.specs.declared.Nesting.TheVariants.{Yes, At}
+-- The pass for 4: the event at which the list does not nest, if there is one. Assumes nothing.
+use Rattle.std.specs.Prelude.{Bool, true, false, ◌&&◌, ◌||◌, List, [], ◌∷◌, ℕ, ◌+◌, eqb, leb, length, if◌then◌else◌, Option, Some, None}
 use Rattle.check_nesting.specs.Grammar.{Item, one, opt, any, chain, name_of, holds, whole}
 use Rattle.check_nesting.specs.Tag.{Tag, enter, exit}
 
@@ -80,12 +77,12 @@ opened n os (entered inside behind) = go inside (record { name = n; behind = beh
 -- an exit is of the newest open, with nothing missing: what may come next, or none
 unfoldable pub leave : Rest → Open → ℕ → Option Rest
 leave r o n =
-    if eqb o.name n && (leb n 2 || may_end r) then some (if leb n 2 then r else o.behind)
-    else none
+    if eqb o.name n && (leb n 2 || may_end r) then Some (if leb n 2 then r else o.behind)
+    else None
 
 abbrev pub closed : List Open → Option Rest → Step
-closed os none = stop
-closed os (some r) = go r os
+closed os None = stop
+closed os (Some r) = go r os
 
 -- at most `most` are open
 unfoldable pub step : (most : ℕ) → Tag → Rest → List Open → Step
@@ -93,15 +90,15 @@ step most (enter n) r os = if leb most (length os) then stop else opened n os (t
 step most (exit n) r [] = stop
 step most (exit n) r (o ∷ os) = closed os (leave r o n)
 
-abbrev pub ended : ℕ → List Open → Nesting
-ended i [] = Yes
-ended i (o ∷ os) = At i
+abbrev pub ended : ℕ → List Open → Option ℕ
+ended i [] = None
+ended i (o ∷ os) = Some i
 
 -- from the tag i on
-unfoldable pub nest_from : (most i : ℕ) → Rest → List Open → List Tag → Nesting
+unfoldable pub nest_from : (most i : ℕ) → Rest → List Open → List Tag → Option ℕ
 nest_from most i r os [] = ended i os
-nest_from most i r os (t ∷ ts) = elim (step most t r os) [ stop ↦ At i | go r' os' ↦ nest_from most (i + 1) r' os' ts ]
+nest_from most i r os (t ∷ ts) = elim (step most t r os) [ stop ↦ Some i | go r' os' ↦ nest_from most (i + 1) r' os' ts ]
 
 -- at most 64 are open
-unfoldable pub nest_of : List Tag → Nesting
+unfoldable pub nest_of : List Tag → Option ℕ
 nest_of ts = nest_from 64 0 (rest whole) [] ts

@@ -1,10 +1,6 @@
 -- The code's tables, in which what may come next is a number: words that only the contracts of private functions use. Assumes nothing.
-use Rattle.std.specs.Prelude.{◌≡◌, Bool, true, false, List, [], ◌∷◌, ℕ, ◌+◌, ◌*◌, ◌≤◌, ◌<◌, eqb, leb, length, get_or, if◌then◌else◌}
-use Rattle.std.proofs.Math.Option.{Option, none, some}
+use Rattle.std.specs.Prelude.{◌≡◌, Bool, true, false, List, [], ◌∷◌, ℕ, ◌+◌, ◌*◌, ◌≤◌, ◌<◌, eqb, leb, length, get_or, if◌then◌else◌, Option, Some, None}
 use Rattle.check_nesting.specs.declared.Entry.{Entry}
-use Rattle.check_nesting.specs.declared.Entry.TheVariants.{Refused, Into}
-use Rattle.check_nesting.specs.declared.Exit.{Exit}
-use Rattle.check_nesting.specs.declared.Exit.TheVariants.{Stays, To}
 use Rattle.check_nesting.specs.Grammar.{one, opt, any, chain, flow, inline, plain, name_count, bullet_item, bullet_prefix, second_fence, call_label}
 use Rattle.check_nesting.specs.Pass.{Rest, shut, rest, Turn, refused, entered, turn, may_end}
 
@@ -69,31 +65,34 @@ abbrev pub IsState : Rest → ℕ → Type 0
 IsState r x = (x < 48) × (state x ≡ r)
 
 -- an answer says what becomes of an element
-abbrev pub Enters : Turn → Entry → Type 0
-Enters refused Refused = Unit {0}
-Enters refused (Into x y) = ⊥
-Enters (entered inside behind) Refused = ⊥
-Enters (entered inside behind) (Into x y) = IsState inside x × IsState behind y
+abbrev pub Enters : Turn → Option Entry → Type 0
+Enters refused None = Unit {0}
+Enters refused (Some x) = ⊥
+Enters (entered inside behind) None = ⊥
+Enters (entered inside behind) (Some x) = IsState inside x.inside × IsState behind x.behind
 
 -- an answer says what becomes of an exit
-abbrev pub Leaves : Option Rest → Exit → Type 0
-Leaves none Stays = Unit {0}
-Leaves none (To x) = ⊥
-Leaves (some r) Stays = ⊥
-Leaves (some r) (To x) = IsState r x
+abbrev pub Leaves : Option Rest → Option ℕ → Type 0
+Leaves None None = Unit {0}
+Leaves None (Some x) = ⊥
+Leaves (Some r) None = ⊥
+Leaves (Some r) (Some x) = IsState r x
 
 -- where the entry of the name n at the state q lies
 abbrev pub place_of : List ℕ → ℕ → ℕ → ℕ
 place_of states q n = (get_or states (q * 2) 0 + n) * 3
 
+abbrev pub into : (inside behind : ℕ) → Option Entry
+into inside behind = Some (record { inside = inside; behind = behind })
+
 -- an entry of the state q, or of another
-abbrev pub entry_at : List ℕ → ℕ → ℕ → Entry
-entry_at entries q at = if eqb (get_or entries at 0) q then Into (get_or entries (at + 1) 0) (get_or entries (at + 2) 0) else Refused
+abbrev pub entry_at : List ℕ → ℕ → ℕ → Option Entry
+entry_at entries q at = if eqb (get_or entries at 0) q then into (get_or entries (at + 1) 0) (get_or entries (at + 2) 0) else None
 
 -- what is looked up
-abbrev pub looked : List ℕ → List ℕ → ℕ → ℕ → Entry
+abbrev pub looked : List ℕ → List ℕ → ℕ → ℕ → Option Entry
 looked states entries q n =
-    if leb n 4 then (if eqb q 0 then Refused else (if leb n 2 then Into q q else Into 0 q))
+    if leb n 4 then (if eqb q 0 then None else (if leb n 2 then into q q else into 0 q))
     else entry_at entries q (place_of states q n)
 
 -- 1 where nothing more has to come

@@ -1,40 +1,22 @@
 // The steps for 4, which a walk over the events takes: whether a list nests (RULES R3), or the event at which it does not.
 #![tactic(auto)]
 
-ghost use Rattle.std.specs.Prelude.{◌≡◌, ◌-◌, ◌≤◌, ◌<◌, length, get_or};
+ghost use Rattle.std.specs.Prelude.{◌≡◌, ◌≤◌, ◌<◌};
 ghost use Rattle.event.specs.Event.{name_count};
 ghost use Rattle.check_nesting.specs.Pass.{turn, leave};
 ghost use Rattle.check_nesting.specs.Tables.{States, Tables, state, place_of, Enters, Leaves};
 ghost use Rattle.check_nesting.specs.Moved.{Opens, Closes, Advances};
 
+mod stack;
+
 use event::Event;
+pub use stack::Nesting;
 
-// What 4 says of a list: yes, or the place.
+// The states in an element that is entered, and behind it.
 #[derive(Clone, Copy)]
-pub enum Nesting {
-    Yes,
-    At(usize),
-}
-
-// An element is refused, or entered: the states in it and behind it.
-#[derive(Clone, Copy)]
-enum Entry {
-    Refused,
-    Into(u8, u8),
-}
-
-// An element stays open, or is left: the state then.
-#[derive(Clone, Copy)]
-enum Exit {
-    Stays,
-    To(u8),
-}
-
-// A list does not nest here, or goes on: how many are open then, and the state.
-#[derive(Clone, Copy)]
-pub enum Moved {
-    Refused,
-    To(usize, u8),
+struct Entry {
+    inside: u8,
+    behind: u8,
 }
 
 // tools/nesting_tables writes the tables. 2 bytes to a state: its place among the entries, and 1 where nothing more has to come.
@@ -82,119 +64,130 @@ pub fn tables() -> Lookup
     }
 }
 
-// 0 to 4 are allowed at every place but inside a 3 or 4, where the state is 0.
-fn enter(states: &[u8], entries: &[u8], here: u8, name: u8) -> Entry
-    requires tables { Tables states.now entries.now }
-    requires here_bound { here < 48 }
-    ensures { Enters (turn (state here) name) result }
-{
-    if name <= Event::BLANK_LINE_ENDING {
-        if here == 0 {
-            return Entry::Refused;
+// How many elements may be open at once.
+const MOST_OPEN: usize = 64;
+
+impl Lookup {
+    // 0 to 4 are allowed at every place but inside a 3 or 4, where the state is 0.
+    fn enter(&self, here: u8, name: u8) -> Option<Entry>
+        requires tables { Tables self.now.states self.now.entries }
+        requires here_bound { here < 48 }
+        ensures { Enters (turn (state here) name) result }
+    {
+        if name <= Event::BLANK_LINE_ENDING {
+            if here == 0 {
+                return None;
+            }
+            if name <= Event::BLOCK_QUOTE_PREFIX {
+                return Some(Entry {
+                    inside: here,
+                    behind: here,
+                });
+            }
+            return Some(Entry {
+                inside: 0,
+                behind: here,
+            });
+        }
+        if Event::NAMES <= name {
+            return None;
+        }
+        let at = self.entry_place(here, name);
+        if self.entries[at] != here {
+            return None;
+        }
+        Some(Entry {
+            inside: self.entries[at + 1],
+            behind: self.entries[at + 2],
+        })
+    }
+
+    // Where the entry of a name lies.
+    fn entry_place(&self, here: u8, name: u8) -> usize
+        requires states { States self.now.states }
+        requires here_bound { (here < 48) × (name < name_count) }
+        ensures { (result ≡ place_of self.now.states here name) × (result ≤ 312) }
+    {
+        let row = self.states[(here as usize) * 2];
+        ((row as usize) + (name as usize)) * 3
+    }
+
+    // The state behind an exit, which must be of the newest open. 0 to 2 hold what their parent holds: nothing is missing, and the state goes on.
+    fn leave(&self, here: u8, name: u8, opened: u8, behind: u8) -> Option<u8>
+        requires states { States self.now.states }
+        requires here_bound { (here < 48) × (behind < 48) }
+        ensures { Leaves (leave (state here) (record { name = opened; behind = state behind }) name) result }
+    {
+        if opened != name {
+            return None;
         }
         if name <= Event::BLOCK_QUOTE_PREFIX {
-            return Entry::Into(here, here);
+            return Some(here);
         }
-        return Entry::Into(0, here);
+        if self.states[(here as usize) * 2 + 1] == 0 {
+            return None;
+        }
+        Some(behind)
     }
-    if Event::NAMES <= name {
-        return Entry::Refused;
-    }
-    let at = entry_place(states, here, name);
-    if entries[at] != here {
-        return Entry::Refused;
-    }
-    Entry::Into(entries[at + 1], entries[at + 2])
 }
 
-// Where the entry of a name lies.
-fn entry_place(states: &[u8], here: u8, name: u8) -> usize
-    requires states { States states.now }
-    requires here_bound { (here < 48) × (name < name_count) }
-    ensures { (result ≡ place_of states.now here name) × (result ≤ 312) }
-{
-    let row = states[(here as usize) * 2];
-    ((row as usize) + (name as usize)) * 3
-}
+impl Nesting {
+    // Before a list: nothing is open, and the whole comes.
+    pub fn new() -> Nesting
+        ensures { (result.depth ≡ 0) × (result.here ≡ 1) }
+    {
+        Nesting {
+            names: [0; 64],
+            behind: [0; 64],
+            depth: 0,
+            here: 1,
+        }
+    }
 
-// An exit must be of the newest open. 0 to 2 hold what their parent holds: nothing is missing, and the state goes on.
-fn leave(states: &[u8], here: u8, name: u8, opened: u8, behind: u8) -> Exit
-    requires states { States states.now }
-    requires here_bound { (here < 48) × (behind < 48) }
-    ensures { Leaves (leave (state here) (record { name = opened; behind = state behind }) name) result }
-{
-    if opened != name {
-        return Exit::Stays;
+    // An enter or an exit: whether the list may go on with it.
+    pub fn advance(&mut self, tables: &Lookup, enters: bool, name: u8) -> bool
+        requires { Tables tables.now.states tables.now.entries }
+        ensures { Advances enters self.old name result self.new }
+    {
+        if enters {
+            return self.open(tables, name);
+        }
+        self.close(tables, name)
     }
-    if name <= Event::BLOCK_QUOTE_PREFIX {
-        return Exit::To(here);
-    }
-    if states[(here as usize) * 2 + 1] == 0 {
-        return Exit::Stays;
-    }
-    Exit::To(behind)
-}
 
-// An enter or an exit: `names` and `behind` hold what is open, `here` is the state.
-pub fn advance(
-    states: &[u8],
-    entries: &[u8],
-    names: &mut [u8],
-    behind: &mut [u8],
-    depth: usize,
-    here: u8,
-    enters: bool,
-    name: u8,
-) -> Moved
-    requires tables { Tables states.now entries.now }
-    requires here_bound { (here < 48) × (depth ≤ 64) × (length names.old ≡ 64) × (length behind.old ≡ 64) × ((depth ≡ 0 → ⊥) → get_or behind.old (depth - 1) 0 < 48) }
-    ensures { Advances enters names.old behind.old depth here name result names.new behind.new }
-{
-    if enters {
-        return open(states, entries, names, behind, depth, here, name);
+    // At most 64 are open.
+    fn open(&mut self, tables: &Lookup, name: u8) -> bool
+        requires { Tables tables.now.states tables.now.entries }
+        ensures { Opens self.old name result self.new }
+    {
+        let depth = self.depth;
+        if depth == MOST_OPEN {
+            return false;
+        }
+        let Some(entry) = tables.enter(self.here, name) else {
+            return false;
+        };
+        self.names[depth] = name;
+        self.behind[depth] = entry.behind;
+        self.depth = depth + 1;
+        self.here = entry.inside;
+        true
     }
-    close(states, names, behind, depth, here, name)
-}
 
-// At most 64 are open.
-fn open(
-    states: &[u8],
-    entries: &[u8],
-    names: &mut [u8],
-    behind: &mut [u8],
-    depth: usize,
-    here: u8,
-    name: u8,
-) -> Moved
-    requires tables { Tables states.now entries.now }
-    requires here_bound { (here < 48) × (depth ≤ 64) × (length names.old ≡ 64) × (length behind.old ≡ 64) }
-    ensures { Opens names.old behind.old depth here name result names.new behind.new }
-{
-    if depth == 64 {
-        return Moved::Refused;
+    // The newest open element is left, if one is open.
+    fn close(&mut self, tables: &Lookup, name: u8) -> bool
+        requires { Tables tables.now.states tables.now.entries }
+        ensures { Closes self.old name result self.new }
+    {
+        if self.depth == 0 {
+            return false;
+        }
+        let at = self.depth - 1;
+        let Some(next) = tables.leave(self.here, name, self.names[at], self.behind[at]) else {
+            return false;
+        };
+        self.depth = at;
+        self.here = next;
+        true
     }
-    let entry = enter(states, entries, here, name);
-    let Entry::Into(inside, after) = entry else {
-        return Moved::Refused;
-    };
-    names[depth] = name;
-    behind[depth] = after;
-    Moved::To(depth + 1, inside)
-}
-
-// The newest open element is left, if one is open.
-fn close(states: &[u8], names: &[u8], behind: &[u8], depth: usize, here: u8, name: u8) -> Moved
-    requires states { States states.now }
-    requires here_bound { (here < 48) × (depth ≤ 64) × (length names.now ≡ 64) × (length behind.now ≡ 64) × ((depth ≡ 0 → ⊥) → get_or behind.now (depth - 1) 0 < 48) }
-    ensures { Closes names.now behind.now depth here name result }
-{
-    if depth == 0 {
-        return Moved::Refused;
-    }
-    let at = depth - 1;
-    let exit = leave(states, here, name, names[at], behind[at]);
-    let Exit::To(next) = exit else {
-        return Moved::Refused;
-    };
-    Moved::To(at, next)
 }

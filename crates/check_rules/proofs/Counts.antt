@@ -1,20 +1,9 @@
 -- Rule 6 as the pass has it and as a reader has it. Assumes nothing.
-use Rattle.std.specs.Prelude.{if◌then◌else◌}
-use mathlib.Core.Path.{◌≡◌, refl, sym, ap, ◌∙◌}
-use mathlib.Core.Bool.{Bool, true, false}
-use mathlib.Core.Logic.{◌↔◌}
-use mathlib.Core.List.{List, [], ◌∷◌}
-use Prim.Native.Nat.{ℕ, zero, suc, ◌+◌, ◌≤◌, ◌<◌}
+use Rattle.std.proofs.Common.{Some, None, if◌then◌else◌, ◌≡◌, refl, sym, ap, ◌∙◌, Bool, true, false, ◌↔◌, List, [], ◌∷◌, ℕ, zero, suc, ◌+◌, ◌≤◌, ◌<◌, add-one, arith, ne_eqb, lt-ltb, eqb, length, take}
 use native.Mathlib.Decide.{ℕ_discrete}
-use native.Mathlib.Numerals.{add-one}
-use native.Mathlib.Omega.{arith}
-use borrow.Author.Tests.{ne_eqb, lt-ltb}
-use lib.Dec.{eqb}
-use lib.ListN.{length, take}
 use Rattle.event.specs.declared.Event.{Event}
 use Rattle.event.specs.Event.{is_enter, events_of}
 use Rattle.check_slices.specs.declared.Counts.{Counts}
-use Rattle.check_slices.specs.declared.FirstWrong.TheVariants.{Yes, At}
 use Rattle.check_slices.specs.First.{first_from}
 use Rattle.check_slices.specs.Counts.{none_counted, Few, counted_behind, count_holds, counts_of}
 use Rattle.check_slices.proofs.Laws.{room-for-definition, room-for-footnote, others-hold, exits-hold, one-definition, one-footnote, others-uncounted, exits-uncounted, stays-few}
@@ -120,17 +109,17 @@ module _ (n : Counts) (e : Event) where
 few-within : (n : Counts) → Few n → Within n []
 few-within n f = let d = f.definitions in let g = f.footnotes in record { definitions = omega arith; footnotes = omega arith }
 
-yes-within : (i : ℕ) (n : Counts) (es : List Event) → Few n → first_from count_holds counted_behind i n es ≡ Yes → Within n es
+yes-within : (i : ℕ) (n : Counts) (es : List Event) → Few n → first_from count_holds counted_behind i n es ≡ None → Within n es
 unfolding first_from
 yes-within i n [] f p = few-within n f
 yes-within i n (e ∷ es) f p = go (λ g q. yes-within (i + 1) (counted_behind n e) es g q) (count_holds n e) refl
   where
-    go : (Few (counted_behind n e) → first_from count_holds counted_behind (i + 1) (counted_behind n e) es ≡ Yes → Within (counted_behind n e) es)
+    go : (Few (counted_behind n e) → first_from count_holds counted_behind (i + 1) (counted_behind n e) es ≡ None → Within (counted_behind n e) es)
         → (t : Bool) → count_holds n e ≡ t → Within n (e ∷ es)
     go more true h = sooner n e es (more (stays-few n (counted_behind n e) e true f (sym h) refl refl) (rw h at p))
-    go more false h = let q : At i ≡ Yes = rw h at p in let z : ◌≡◌ {A = ℕ} 0 1 = cc in absurd (omega arith)
+    go more false h = let q : Some i ≡ None = rw h at p in let z : ◌≡◌ {A = ℕ} 0 1 = cc in absurd (omega arith)
 
-within-yes : (i : ℕ) (n : Counts) (es : List Event) → Within n es → first_from count_holds counted_behind i n es ≡ Yes
+within-yes : (i : ℕ) (n : Counts) (es : List Event) → Within n es → first_from count_holds counted_behind i n es ≡ None
 unfolding first_from
 within-yes i n [] w = refl
 within-yes i n (e ∷ es) w = rw (pass n e es w) (within-yes (i + 1) (counted_behind n e) es (later n e es w))
@@ -141,12 +130,12 @@ record Past (n : Counts) (es : List Event) (k : ℕ) : Type 0 where
   pub before : Within n (take k es)
   pub breaks : Within n (take (suc k) es) → ⊥
 
-at-past : (i j : ℕ) (n : Counts) (es : List Event) → Few n → first_from count_holds counted_behind i n es ≡ At j → (k : ℕ) × (j ≡ i + k) × Past n es k
+at-past : (i j : ℕ) (n : Counts) (es : List Event) → Few n → first_from count_holds counted_behind i n es ≡ Some j → (k : ℕ) × (j ≡ i + k) × Past n es k
 unfolding first_from
 at-past i j n [] f p = let z : ◌≡◌ {A = ℕ} 0 1 = cc in absurd (omega arith)
 at-past i j n (e ∷ es) f p = go (λ g q. at-past (i + 1) j (counted_behind n e) es g q) (count_holds n e) refl
   where
-    go : (Few (counted_behind n e) → first_from count_holds counted_behind (i + 1) (counted_behind n e) es ≡ At j → (k : ℕ) × (j ≡ i + 1 + k) × Past (counted_behind n e) es k)
+    go : (Few (counted_behind n e) → first_from count_holds counted_behind (i + 1) (counted_behind n e) es ≡ Some j → (k : ℕ) × (j ≡ i + 1 + k) × Past (counted_behind n e) es k)
         → (t : Bool) → count_holds n e ≡ t → (k : ℕ) × (j ≡ i + k) × Past n (e ∷ es) k
     go more true h =
         let r = more (stays-few n (counted_behind n e) e true f (sym h) refl refl) (rw h at p) in
@@ -156,7 +145,7 @@ at-past i j n (e ∷ es) f p = go (λ g q. at-past (i + 1) j (counted_behind n e
           record { inside = let l = x.inside in omega arith; before = sooner n e (take r.0 es) x.before; breaks = λ w. x.breaks (later n e (take (suc r.0) es) w) },
         )
     go more false h =
-        let q : At i ≡ At j = rw h at p in
+        let q : Some i ≡ Some j = rw h at p in
         let y : i ≡ j = cc in
         (0, omega arith, record { inside = omega arith; before = few-within n f; breaks = λ w. clash (pass n e [] w) h })
 
@@ -191,11 +180,11 @@ counts-prefix k es m =
     record { definitions = omega arith; footnotes = omega arith }
 
 module _ (events : List ℕ) where
-  pub counts-meet : (counts_of events ≡ Yes) ↔ CountsMeet (events_of events)
+  pub counts-meet : (counts_of events ≡ None) ↔ CountsMeet (events_of events)
   unfolding counts_of
   counts-meet = (λ p. within-meets (events_of events) (yes-within 0 none_counted (events_of events) none-few p), λ m. within-yes 0 none_counted (events_of events) (meets-within (events_of events) m))
 
-  pub counts-break : (i : ℕ) → counts_of events ≡ At i → TooMany (events_of events) i
+  pub counts-break : (i : ℕ) → counts_of events ≡ Some i → TooMany (events_of events) i
   unfolding counts_of
   counts-break i p =
       let r = at-past 0 i none_counted (events_of events) none-few p in

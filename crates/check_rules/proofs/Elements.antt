@@ -1,27 +1,18 @@
 -- A link's own parts, by the tree and by the walk that counts what is open. Assumes nothing.
-use Rattle.std.specs.Prelude.{if◌then◌else◌}
-use mathlib.Core.Path.{◌≡◌, refl, sym, ◌∙◌}
-use mathlib.Core.Bool.{Bool, true, false, ◌&&◌}
-use mathlib.Core.List.{List, ◌∷◌}
-use Prim.Native.Nat.{ℕ, ◌+◌, ◌-◌, ◌≤◌}
-use native.Mathlib.Omega.{arith}
-use borrow.Author.Tests.{ne_eqb, eq-eqb}
-use lib.Dec.{eqb, leb}
+use Rattle.std.proofs.Common.{Some, None, if◌then◌else◌, ◌≡◌, refl, sym, ◌∙◌, Bool, true, false, ◌&&◌, List, ◌∷◌, ℕ, ◌+◌, ◌-◌, ◌≤◌, arith, ne_eqb, eq-eqb, eqb, leb}
 use Rattle.event.specs.declared.Event.{Event}
 use Rattle.event.specs.Event.{is_enter}
-use Rattle.check_labels.specs.declared.Part.{Part}
-use Rattle.check_labels.specs.declared.Part.TheVariants.{Slice, Nothing}
 use Rattle.check_labels.specs.declared.Turn.TheVariants.{On, Own, Out}
-use Rattle.check_labels.specs.Labels.{turn_of, own_part, or_else, sought_of}
+use Rattle.check_labels.specs.Labels.{Part, turn_of, own_part, or_else, sought_of}
 use Rattle.check_rules.specs.Elements.{Forest, nil, element, list_of, Paired, child_of, grandchild_of, sought_in}
 
 or-else : (x y z : Part) → or_else (or_else x y) z ≡ or_else x (or_else y z)
-or-else (Slice from to) y z = refl
-or-else Nothing y z = refl
+or-else (Some s) y z = refl
+or-else None y z = refl
 
-or_nothing_lem : (x : Part) → or_else x Nothing ≡ x
-or_nothing_lem (Slice from to) = refl
-or_nothing_lem Nothing = refl
+or_nothing_lem : (x : Part) → or_else x None ≡ x
+or_nothing_lem (Some s) = refl
+or_nothing_lem None = refl
 
 module _ (n at : ℕ) where
   -- ---- one event of the walk
@@ -40,15 +31,15 @@ module _ (n at : ℕ) where
     enters p q = on (d + 1) (rw (p, q))
 
   module _ (e : Event) (es : List Event) (p : leb e.name 4 ≡ false) (q : is_enter e ≡ false) where
-    gone : own_part n at 0 (e ∷ es) ≡ Nothing
+    gone : own_part n at 0 (e ∷ es) ≡ None
     unfolding own_part turn_of
     gone = let r : turn_of n at 0 e ≡ Out = rw (p, q) in rw (own_part, r)
 
-    leaves : (d : ℕ) → own_part n at (d + 1) (e ∷ es) ≡ (if eqb (d + 1) at && eqb e.name n then Slice e.from.0 e.to.0 else own_part n at d es)
+    leaves : (d : ℕ) → own_part n at (d + 1) (e ∷ es) ≡ (if eqb (d + 1) at && eqb e.name n then Some (e.from.0, e.to.0) else own_part n at d es)
     unfolding own_part turn_of
     leaves d = go (eqb (d + 1) at && eqb e.name n) refl
       where
-        go : (t : Bool) → (eqb (d + 1) at && eqb e.name n) ≡ t → own_part n at (d + 1) (e ∷ es) ≡ (if t then Slice e.from.0 e.to.0 else own_part n at d es)
+        go : (t : Bool) → (eqb (d + 1) at && eqb e.name n) ≡ t → own_part n at (d + 1) (e ∷ es) ≡ (if t then Some (e.from.0, e.to.0) else own_part n at d es)
         go true r = let u : turn_of n at (d + 1) e ≡ Own e.from.0 e.to.0 = rw (p, q, ne_eqb (d + 1) 0 (λ z. absurd (omega arith)), r) in rw (own_part, u)
         go false r =
             let m : d + 1 - 1 ≡ d = omega arith in
@@ -58,13 +49,13 @@ module _ (n at : ℕ) where
   -- ---- a forest, in which d are open
 
   abbrev found : ℕ → Forest → Part
-  found d nil = Nothing
+  found d nil = None
   found d (element a f z g) =
       if leb a.name 4 then or_else (found d f) (found d g)
-      else or_else (found (d + 1) f) (if eqb (d + 1) at && eqb a.name n then Slice z.from.0 z.to.0 else found d g)
+      else or_else (found (d + 1) f) (if eqb (d + 1) at && eqb a.name n then Some (z.from.0, z.to.0) else found d g)
 
-  chosen : (t : Bool) (x y r : Part) (from to : ℕ) → or_else x (if t then Slice from to else or_else y r) ≡ or_else (or_else x (if t then Slice from to else y)) r
-  chosen true x y r from to = sym (or-else x (Slice from to) r)
+  chosen : (t : Bool) (x y r : Part) (from to : ℕ) → or_else x (if t then Some (from, to) else or_else y r) ≡ or_else (or_else x (if t then Some (from, to) else y)) r
+  chosen true x y r from to = sym (or-else x (Some (from, to)) r)
   chosen false x y r from to = sym (or-else x y r)
 
   walk : (f : Forest) (d : ℕ) (es : List Event) → Paired f → own_part n at d (list_of f es) ≡ or_else (found d f) (own_part n at d es)
@@ -84,12 +75,12 @@ module _ (n at : ℕ) where
           rw h (enters d a (list_of f (z ∷ list_of g es)) h p.0 ∙ v ∙ rw (leaves z (list_of g es) hz p.1 d, p.2, w) (chosen (eqb (d + 1) at && eqb a.name n) (found (d + 1) f) (found d g) (own_part n at d es) z.from.0 z.to.0))
 
   -- nothing is found deeper
-  deep : (f : Forest) (d : ℕ) → at ≤ d → found d f ≡ Nothing
+  deep : (f : Forest) (d : ℕ) → at ≤ d → found d f ≡ None
   deep nil d h = refl
   deep (element a f z g) d h = go (leb a.name 4) (deep f d h) (deep f (d + 1) (omega arith)) (deep g d h)
     where
-      go : (t : Bool) → found d f ≡ Nothing → found (d + 1) f ≡ Nothing → found d g ≡ Nothing
-          → (if t then or_else (found d f) (found d g) else or_else (found (d + 1) f) (if eqb (d + 1) at && eqb a.name n then Slice z.from.0 z.to.0 else found d g)) ≡ Nothing
+      go : (t : Bool) → found d f ≡ None → found (d + 1) f ≡ None → found d g ≡ None
+          → (if t then or_else (found d f) (found d g) else or_else (found (d + 1) f) (if eqb (d + 1) at && eqb a.name n then Some (z.from.0, z.to.0) else found d g)) ≡ None
       go true u v w = rw (u, w)
       go false u v w = rw (v, ne_eqb (d + 1) at (λ q. absurd (omega arith)), w)
 
@@ -98,9 +89,9 @@ module _ (n : ℕ) where
   child d nil = refl
   child d (element a f z g) = go (leb a.name 4) (child d f) (deep n (d + 1) f (d + 1) (omega arith)) (child d g)
     where
-      go : (t : Bool) → found n (d + 1) d f ≡ child_of n f → found n (d + 1) (d + 1) f ≡ Nothing → found n (d + 1) d g ≡ child_of n g
-          → (if t then or_else (found n (d + 1) d f) (found n (d + 1) d g) else or_else (found n (d + 1) (d + 1) f) (if eqb (d + 1) (d + 1) && eqb a.name n then Slice z.from.0 z.to.0 else found n (d + 1) d g))
-          ≡ (if t then or_else (child_of n f) (child_of n g) else (if eqb a.name n then Slice z.from.0 z.to.0 else child_of n g))
+      go : (t : Bool) → found n (d + 1) d f ≡ child_of n f → found n (d + 1) (d + 1) f ≡ None → found n (d + 1) d g ≡ child_of n g
+          → (if t then or_else (found n (d + 1) d f) (found n (d + 1) d g) else or_else (found n (d + 1) (d + 1) f) (if eqb (d + 1) (d + 1) && eqb a.name n then Some (z.from.0, z.to.0) else found n (d + 1) d g))
+          ≡ (if t then or_else (child_of n f) (child_of n g) else (if eqb a.name n then Some (z.from.0, z.to.0) else child_of n g))
       go true u v w = rw (u, w)
       go false u v w = rw (v, eq-eqb (d + 1) (d + 1) refl, w)
 

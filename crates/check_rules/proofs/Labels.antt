@@ -1,18 +1,10 @@
 -- Rule 7 as the pass has it and as a reader has it. Assumes nothing.
-use mathlib.Core.Path.{◌≡◌, refl, sym, ap, ◌∙◌}
-use mathlib.Core.Bool.{Bool, true, false, ◌||◌}
-use mathlib.Core.List.{List, [], ◌∷◌}
-use Prim.Native.Nat.{ℕ, ◌+◌, ◌/◌, ◌<◌}
+use Rattle.std.proofs.Common.{Some, None, ◌≡◌, refl, sym, ap, ◌∙◌, Bool, true, false, ◌||◌, List, [], ◌∷◌, ℕ, ◌+◌, ◌/◌, ◌<◌, arith, eqb-true, eqb, leb, length, drop}
 use native.Mathlib.Decide.{dec_lt}
-use native.Mathlib.Omega.{arith}
-use borrow.Author.Tests.{eqb-true}
-use lib.Dec.{eqb, leb}
-use lib.ListN.{length, drop}
 use Rattle.lent.specs.Bytes.{one_of}
 use Rattle.event.specs.declared.Event.{Event}
 use Rattle.event.specs.Event.{is_enter, named, event_at, events_of}
 use Rattle.event.proofs.Laws.{events-next, events-end}
-use Rattle.check_labels.specs.declared.Labels.TheVariants.{Yes, At}
 use Rattle.check_labels.specs.Labels.{identities, sought_of, is_defined, label_holds, undefined_of}
 use Rattle.check_labels.proofs.Laws.{yes_iff, at-lowest}
 use Rattle.check_nesting.specs.Tag.{tags_of}
@@ -100,10 +92,10 @@ module _ (text events : List ℕ) where
         (λ p q. (let f = element-at events k w l p in rw (sought-at k f.0 f.1 (media-name e.name q)) ((m f.0 f.1).media p q)))
         (λ p q. (let f = element-at events k w l p in rw (sought-at k f.0 f.1 (call-name e.name q)) ((m f.0 f.1).call p q)))
 
-  pub labels-meet : undefined_of text events ≡ Yes → Each events (LabelAt text events)
+  pub labels-meet : undefined_of text events ≡ None → Each events (LabelAt text events)
   labels-meet p k h = meets_at k h ((yes_iff text events).0 p k (event_at events k) (drop (k + 1) es) (events-next events k h))
 
-  pub labels-break : (i : ℕ) → Nests (tags_of events) → undefined_of text events ≡ At i → Earliest events (LabelAt text events) i
+  pub labels-break : (i : ℕ) → Nests (tags_of events) → undefined_of text events ≡ Some i → Earliest events (LabelAt text events) i
   labels-break i w p =
       let l = at-lowest text events i p in
       let q = placed i l.place in

@@ -1,34 +1,20 @@
 -- The checker's answer is the only one that says what is so. Assumes nothing.
-use Rattle.std.specs.Prelude.{if◌then◌else◌}
-use mathlib.Core.Path.{◌≡◌, refl, sym, ap, ◌∙◌}
-use mathlib.Core.Bool.{Bool, true, false, not}
-use mathlib.Core.Logic.{◌↔◌}
-use mathlib.Core.List.{List}
-use Prim.Native.Nat.{ℕ, ◌+◌}
+use Rattle.std.proofs.Common.{Option, Some, None, Ok, Err, if◌then◌else◌, ◌≡◌, refl, sym, ap, ◌∙◌, Bool, true, false, not, ◌↔◌, List, ℕ, ◌+◌}
 use Rattle.lent.proofs.Computed.{is_true}
 use Rattle.utf8.specs.Utf8.{is_utf8, Characters}
 use Rattle.utf8.proofs.Characters.{characters}
 use Rattle.event.specs.Event.{events_of}
-use Rattle.check_nesting.specs.declared.Nesting.{Nesting}
-use Rattle.check_nesting.specs.declared.Nesting.TheVariants as N
 use Rattle.check_nesting.specs.Tag.{tags_of}
 use Rattle.check_nesting.specs.Nests.{Nests}
 use Rattle.check_nesting.specs.Pass.{nest_of}
 use Rattle.check_nesting.proofs.Grows.{exactly}
-use Rattle.check_fields.specs.declared.Fields.{Fields}
-use Rattle.check_fields.specs.declared.Fields.TheVariants as F
 use Rattle.check_fields.specs.Fields.{fields_of}
-use Rattle.check_slices.specs.declared.FirstWrong.{FirstWrong}
-use Rattle.check_slices.specs.declared.FirstWrong.TheVariants as S
 use Rattle.check_slices.specs.Slices.{slices_of}
 use Rattle.check_slices.specs.Counts.{counts_of}
-use Rattle.check_labels.specs.declared.Labels.{Labels}
-use Rattle.check_labels.specs.declared.Labels.TheVariants as L
 use Rattle.check_labels.specs.Labels.{undefined_of}
-use Rattle.check_list.specs.declared.Checked.{Checked}
-use Rattle.check_list.specs.declared.Checked.TheVariants.{Yes, WrongLength, NotUtf8, Field, Nested, Slice, Count, Label}
-use Rattle.check_list.specs.Checked.{event, sizes_hold, check_of}
-use Rattle.check_list.specs.Stairs.{stairs_of, from_fields, from_nesting, from_slices, from_counts, from_labels, after_fields, after_nesting, after_slices, after_counts, after_labels}
+use Rattle.check_list.specs.declared.Refusal.TheVariants.{WrongLength, NotUtf8, Field, Nested, Slice, Count, Label}
+use Rattle.check_list.specs.Checked.{Checked, event, sizes_hold, check_of}
+use Rattle.check_list.specs.Stairs.{stairs_of, from_fields, from_nesting, from_slices, from_counts, from_labels, after}
 use Rattle.check_list.proofs.Numbers.{stairs}
 use Rattle.check_rules.specs.Rules.{SizesMeet, SliceMeets, CountsMeet, FieldMeets, LabelAt, Each, Earliest, TooMany, Misplaced, Says, all-met, first, second, third, fourth, fifth, sixth, seventh}
 use Rattle.check_rules.proofs.Counts.{counts-prefix, counts-meet, counts-break}
@@ -40,46 +26,46 @@ module _ (text events : List ℕ) where
   -- ---- each rule that is met passes to the next, and the first place of one that is not is the answer
 
   module _ (next : Checked) where
-    field_next : Each events (FieldMeets text events) → (a : Fields) → fields_of text events ≡ a → next ≡ after_fields a next
-    field_next f F.Yes p = refl
-    field_next f (F.At j) p = let e = fields-break text events j p in absurd (e.breaks (f j e.within))
+    field_next : Each events (FieldMeets text events) → (a : Option ℕ) → fields_of text events ≡ a → next ≡ after a (λ i. Field i) next
+    field_next f None p = refl
+    field_next f (Some j) p = let e = fields-break text events j p in absurd (e.breaks (f j e.within))
 
-    field-first : {i : ℕ} → Earliest events (FieldMeets text events) i → (a : Fields) → fields_of text events ≡ a → Field (event i) ≡ after_fields a next
-    field-first {i} e F.Yes p = absurd (e.breaks (fields-meet text events p i e.within))
-    field-first e (F.At j) p = ap (λ (k : ℕ). Field (event k)) (one-earliest e (fields-break text events j p))
+    field-first : {i : ℕ} → Earliest events (FieldMeets text events) i → (a : Option ℕ) → fields_of text events ≡ a → Err (Field (event i)) ≡ after a (λ i. Field i) next
+    field-first {i} e None p = absurd (e.breaks (fields-meet text events p i e.within))
+    field-first e (Some j) p = ap (λ (k : ℕ). Err (Field (event k))) (one-earliest e (fields-break text events j p))
 
-    nest-next : Nests (tags_of events) → (a : Nesting) → nest_of (tags_of events) ≡ a → next ≡ after_nesting a next
-    nest-next n N.Yes p = refl
-    nest-next n (N.At j) p = absurd ((misplaced text events j p).breaks n)
+    nest-next : Nests (tags_of events) → (a : Option ℕ) → nest_of (tags_of events) ≡ a → next ≡ after a (λ i. Nested i) next
+    nest-next n None p = refl
+    nest-next n (Some j) p = absurd ((misplaced text events j p).breaks n)
 
-    nest-first : {i : ℕ} → Misplaced (tags_of events) i → (a : Nesting) → nest_of (tags_of events) ≡ a → Nested (event i) ≡ after_nesting a next
-    nest-first m N.Yes p = absurd (m.breaks ((exactly (tags_of events)).0 p))
-    nest-first m (N.At j) p = ap (λ (k : ℕ). Nested (event k)) (one-misplaced m (misplaced text events j p))
+    nest-first : {i : ℕ} → Misplaced (tags_of events) i → (a : Option ℕ) → nest_of (tags_of events) ≡ a → Err (Nested (event i)) ≡ after a (λ i. Nested i) next
+    nest-first m None p = absurd (m.breaks ((exactly (tags_of events)).0 p))
+    nest-first m (Some j) p = ap (λ (k : ℕ). Err (Nested (event k))) (one-misplaced m (misplaced text events j p))
 
-    slice-next : Each events (SliceMeets events text) → (a : FirstWrong) → slices_of text events ≡ a → next ≡ after_slices a next
-    slice-next f S.Yes p = refl
-    slice-next f (S.At j) p = let e = slices-break text events j p in absurd (e.breaks (f j e.within))
+    slice-next : Each events (SliceMeets events text) → (a : Option ℕ) → slices_of text events ≡ a → next ≡ after a (λ i. Slice i) next
+    slice-next f None p = refl
+    slice-next f (Some j) p = let e = slices-break text events j p in absurd (e.breaks (f j e.within))
 
-    slice_first : {i : ℕ} → Earliest events (SliceMeets events text) i → (a : FirstWrong) → slices_of text events ≡ a → Slice (event i) ≡ after_slices a next
-    slice_first {i} e S.Yes p = absurd (e.breaks (slices-meet text events p i e.within))
-    slice_first e (S.At j) p = ap (λ (k : ℕ). Slice (event k)) (one-earliest e (slices-break text events j p))
+    slice_first : {i : ℕ} → Earliest events (SliceMeets events text) i → (a : Option ℕ) → slices_of text events ≡ a → Err (Slice (event i)) ≡ after a (λ i. Slice i) next
+    slice_first {i} e None p = absurd (e.breaks (slices-meet text events p i e.within))
+    slice_first e (Some j) p = ap (λ (k : ℕ). Err (Slice (event k))) (one-earliest e (slices-break text events j p))
 
-    count_next : CountsMeet (events_of events) → (a : FirstWrong) → counts_of events ≡ a → next ≡ after_counts a next
-    count_next m S.Yes p = refl
-    count_next m (S.At j) p = absurd ((counts-break events j p).breaks (counts-prefix (j + 1) (events_of events) m))
+    count_next : CountsMeet (events_of events) → (a : Option ℕ) → counts_of events ≡ a → next ≡ after a (λ i. Count i) next
+    count_next m None p = refl
+    count_next m (Some j) p = absurd ((counts-break events j p).breaks (counts-prefix (j + 1) (events_of events) m))
 
-    count-first : {i : ℕ} → TooMany (events_of events) i → (a : FirstWrong) → counts_of events ≡ a → Count (event i) ≡ after_counts a next
-    count-first {i} m S.Yes p = absurd (m.breaks (counts-prefix (i + 1) (events_of events) ((counts-meet events).0 p)))
-    count-first m (S.At j) p = ap (λ (k : ℕ). Count (event k)) (one-too-many m (counts-break events j p))
+    count-first : {i : ℕ} → TooMany (events_of events) i → (a : Option ℕ) → counts_of events ≡ a → Err (Count (event i)) ≡ after a (λ i. Count i) next
+    count-first {i} m None p = absurd (m.breaks (counts-prefix (i + 1) (events_of events) ((counts-meet events).0 p)))
+    count-first m (Some j) p = ap (λ (k : ℕ). Err (Count (event k))) (one-too-many m (counts-break events j p))
 
-    label-first : {i : ℕ} → Nests (tags_of events) → Earliest events (LabelAt text events) i → (a : Labels) → undefined_of text events ≡ a → Label (event i) ≡ after_labels a next
-    label-first {i} n e L.Yes p = absurd (e.breaks (labels-meet text events p i e.within))
-    label-first n e (L.At j) p = ap (λ (k : ℕ). Label (event k)) (one-earliest e (labels-break text events j n p))
+    label-first : {i : ℕ} → Nests (tags_of events) → Earliest events (LabelAt text events) i → (a : Option ℕ) → undefined_of text events ≡ a → Err (Label (event i)) ≡ after a (λ i. Label i) next
+    label-first {i} n e None p = absurd (e.breaks (labels-meet text events p i e.within))
+    label-first n e (Some j) p = ap (λ (k : ℕ). Err (Label (event k))) (one-earliest e (labels-break text events j n p))
 
   -- ---- in their order
 
   module _ (s : SizesMeet text events) where
-    pass-sizes : (if not (is_utf8 text) then NotUtf8 else from_fields text events) ≡ check_of text events
+    pass-sizes : (if not (is_utf8 text) then Err NotUtf8 else from_fields text events) ≡ check_of text events
     unfolding stairs_of
     pass-sizes = rw (sizes-hold text events s) at (stairs text events)
 
@@ -106,18 +92,18 @@ module _ (text events : List ℕ) where
             unfolding from_counts
             pass-counts m = count_next (from_labels text events) m (counts_of events) refl ∙ pass-slices
 
-  too_long : (SizesMeet text events → ⊥) → WrongLength ≡ check_of text events
+  too_long : (SizesMeet text events → ⊥) → Err WrongLength ≡ check_of text events
   unfolding stairs_of
   too_long x = go (sizes_hold text events) refl ∙ stairs text events
     where
-      go : (a : Bool) → sizes_hold text events ≡ a → WrongLength ≡ (if not a then WrongLength else (if not (is_utf8 text) then NotUtf8 else from_fields text events))
+      go : (a : Bool) → sizes_hold text events ≡ a → Err WrongLength ≡ (if not a then Err WrongLength else (if not (is_utf8 text) then Err NotUtf8 else from_fields text events))
       go false p = refl
       go true p = absurd (x (sizes-meet text events p))
 
-  not_valid : (Characters text → ⊥) → NotUtf8 ≡ (if not (is_utf8 text) then NotUtf8 else from_fields text events)
+  not_valid : (Characters text → ⊥) → Err NotUtf8 ≡ (if not (is_utf8 text) then Err NotUtf8 else from_fields text events)
   not_valid x = go (is_utf8 text) refl
     where
-      go : (b : Bool) → is_utf8 text ≡ b → NotUtf8 ≡ (if not b then NotUtf8 else from_fields text events)
+      go : (b : Bool) → is_utf8 text ≡ b → Err NotUtf8 ≡ (if not b then Err NotUtf8 else from_fields text events)
       go false p = refl
       go true p = absurd (x ((characters text).0 (rw p tt)))
 
@@ -130,7 +116,7 @@ module _ (text events : List ℕ) where
   checked (fourth s c f e) = nest-first (from_slices text events) e (nest_of (tags_of events)) refl ∙ pass-fields s c f
   checked (fifth s c f n e) = slice_first (from_counts text events) e (slices_of text events) refl ∙ pass-nesting s c f n
   checked (sixth s c f n l e) = count-first (from_labels text events) e (counts_of events) refl ∙ pass-slices s c f n l
-  checked (seventh s c f n l m e) = label-first Yes n e (undefined_of text events) refl ∙ pass-counts s c f n l m
+  checked (seventh s c f n l m e) = label-first (Ok tt) n e (undefined_of text events) refl ∙ pass-counts s c f n l m
 
   -- what an answer says is so exactly where it is the checker's
   pub only : {c : Checked} → Says text events c ↔ (c ≡ check_of text events)

@@ -1,12 +1,6 @@
 -- Each rule's first place is one place. Assumes nothing.
-use mathlib.Core.Path.{◌≡◌}
-use mathlib.Core.List.{List, ◌++◌, append_assoc}
-use Prim.Native.Nat.{ℕ, ◌+◌, ◌≤◌, ◌<◌}
+use Rattle.std.proofs.Common.{◌≡◌, List, ◌++◌, append_assoc, ℕ, ◌+◌, ◌≤◌, ◌<◌, lt_of_not-le, arith, length, take, drop, take-append-drop, length-take, take-take, take_all}
 use native.Mathlib.Decide.{dec_lt, dec_le}
-use native.Mathlib.Nat.{lt_of_not-le}
-use native.Mathlib.Omega.{arith}
-use lib.ListN.{length, take, drop, take-append-drop, length-take}
-use lib.Seq.{take-take, take_all}
 use Rattle.event.specs.declared.Event.{Event}
 use Rattle.check_nesting.specs.Tag.{Tag}
 use Rattle.check_rules.specs.Rules.{CountsMeet, Earliest, TooMany, InOrder, Misplaced}

@@ -1,10 +1,5 @@
 -- A pass that carries a state: what the state is before the event k, and what the pass asks there. Assumes nothing.
-use mathlib.Core.Path.{◌≡◌, refl}
-use mathlib.Core.Bool.{Bool, true}
-use mathlib.Core.List.{List, [], ◌∷◌}
-use Prim.Native.Nat.{ℕ, zero, suc}
-use native.Mathlib.Omega.{arith}
-use lib.ListN.{drop}
+use Rattle.std.proofs.Common.{◌≡◌, refl, Bool, true, List, [], ◌∷◌, ℕ, zero, suc, arith, drop}
 use lib.Seq.{drop-nil}
 use Rattle.event.specs.declared.Event.{Event}
 use Rattle.check_slices.proofs.First.{holds_at}

@@ -1,10 +1,8 @@
 -- An element of a list, as a tree over its events: what it holds, and what it seeks. Assumes nothing.
-use Rattle.std.specs.Prelude.{◌≡◌, true, false, List, ◌∷◌, ℕ, eqb, leb, drop, if◌then◌else◌}
+use Rattle.std.specs.Prelude.{◌≡◌, true, false, List, ◌∷◌, ℕ, eqb, leb, drop, if◌then◌else◌, Some, None}
 use Rattle.event.specs.declared.Event.{Event}
 use Rattle.event.specs.Event.{is_enter}
-use Rattle.check_labels.specs.declared.Part.{Part}
-use Rattle.check_labels.specs.declared.Part.TheVariants.{Slice, Nothing}
-use Rattle.check_labels.specs.Labels.{unless, or_else}
+use Rattle.check_labels.specs.Labels.{Part, unless, or_else}
 
 -- an element with its enter, what it holds and its exit, and what stands behind it
 pub data Forest : Type 0 where
@@ -34,15 +32,15 @@ pub record ElementAt (es : List Event) (k : ℕ) (enter : Event) (inside : Fores
 
 -- the slice of its first child named n: RULES R3.2 says whose children those in a 0, 1 or 2 are, and 3 and 4 are empty
 abbrev pub child_of : ℕ → Forest → Part
-child_of n nil = Nothing
+child_of n nil = None
 child_of n (element a f z g) =
     if leb a.name 4 then or_else (child_of n f) (child_of n g)
-    else (if eqb a.name n then Slice z.from.0 z.to.0
+    else (if eqb a.name n then Some (z.from.0, z.to.0)
     else child_of n g)
 
 -- and of the first n that a child holds
 abbrev pub grandchild_of : ℕ → Forest → Part
-grandchild_of n nil = Nothing
+grandchild_of n nil = None
 grandchild_of n (element a f z g) =
     if leb a.name 4 then or_else (grandchild_of n f) (grandchild_of n g)
     else or_else (child_of n f) (grandchild_of n g)

@@ -1,5 +1,5 @@
 -- The rules for a text and its events (RULES R3 to R8), as a reader has them: facts about events, their places and elements, and no pass. Assumes nothing.
-use Rattle.std.specs.Prelude.{◌≡◌, Bool, true, false, ◌||◌, List, [], ◌∷◌, ◌++◌, ℕ, ◌+◌, ◌%◌, ◌≤◌, ◌<◌, eqb, length, take, if◌then◌else◌}
+use Rattle.std.specs.Prelude.{◌≡◌, Bool, true, false, ◌||◌, List, [], ◌∷◌, ◌++◌, ℕ, ◌+◌, ◌%◌, ◌≤◌, ◌<◌, eqb, length, take, if◌then◌else◌, Ok, Err}
 use Rattle.utf8.specs.Utf8.{Characters}
 use Rattle.event.specs.declared.Event.{Event}
 use Rattle.event.specs.Event.{record_size, count_of, is_enter, named, event_at, events_of}
@@ -12,9 +12,8 @@ use Rattle.check_fields.specs.Rules.{FieldsMeet}
 use Rattle.check_slices.specs.Slices.{is_ending, is_item_value, is_level, is_underline, part}
 use Rattle.check_labels.specs.Labels.{identities, is_defined}
 use Rattle.check_rules.specs.Elements.{Forest, ElementAt, sought_in}
-use Rattle.check_list.specs.declared.Checked.{Checked}
-use Rattle.check_list.specs.declared.Checked.TheVariants.{Yes, WrongLength, NotUtf8, Field, Nested, Slice, Count, Label}
-use Rattle.check_list.specs.Checked.{event}
+use Rattle.check_list.specs.declared.Refusal.TheVariants.{WrongLength, NotUtf8, Field, Nested, Slice, Count, Label}
+use Rattle.check_list.specs.Checked.{Checked, event}
 
 -- 1: a text of up to 64,000 bytes, and up to 3,200 events, in whole records
 pub record SizesMeet (text events : List ℕ) : Type 0 where
@@ -134,14 +133,14 @@ pub record Misplaced (ts : List Tag) (i : ℕ) : Type 0 where
 -- ---- what the checker's answer says: all rules are met, or the lowest number whose rule is broken, and the first event that breaks it
 
 pub data Says (text events : List ℕ) : Checked → Type 0 where
-  all-met : Meets text events → Says text events Yes
-  first : (SizesMeet text events → ⊥) → Says text events WrongLength
-  second : SizesMeet text events → (Characters text → ⊥) → Says text events NotUtf8
-  third : {i : ℕ} → SizesMeet text events → Characters text → Earliest events (FieldMeets text events) i → Says text events (Field (event i))
-  fourth : {i : ℕ} → SizesMeet text events → Characters text → Each events (FieldMeets text events) → Misplaced (tags_of events) i → Says text events (Nested (event i))
-  fifth : {i : ℕ} → SizesMeet text events → Characters text → Each events (FieldMeets text events) → Nests (tags_of events) → Earliest events (SliceMeets events text) i → Says text events (Slice (event i))
+  all-met : Meets text events → Says text events (Ok tt)
+  first : (SizesMeet text events → ⊥) → Says text events (Err WrongLength)
+  second : SizesMeet text events → (Characters text → ⊥) → Says text events (Err NotUtf8)
+  third : {i : ℕ} → SizesMeet text events → Characters text → Earliest events (FieldMeets text events) i → Says text events (Err (Field (event i)))
+  fourth : {i : ℕ} → SizesMeet text events → Characters text → Each events (FieldMeets text events) → Misplaced (tags_of events) i → Says text events (Err (Nested (event i)))
+  fifth : {i : ℕ} → SizesMeet text events → Characters text → Each events (FieldMeets text events) → Nests (tags_of events) → Earliest events (SliceMeets events text) i → Says text events (Err (Slice (event i)))
   sixth : {i : ℕ} → SizesMeet text events → Characters text → Each events (FieldMeets text events) → Nests (tags_of events) → Each events (SliceMeets events text) → TooMany (events_of events) i
-      → Says text events (Count (event i))
+      → Says text events (Err (Count (event i)))
   seventh : {i : ℕ} → SizesMeet text events → Characters text → Each events (FieldMeets text events) → Nests (tags_of events) → Each events (SliceMeets events text) → CountsMeet (events_of events)
       → Earliest events (LabelAt text events) i
-      → Says text events (Label (event i))
+      → Says text events (Err (Label (event i)))

@@ -1,21 +1,12 @@
 -- The laws of the passes for 5 and 6. Assumes nothing.
-use Rattle.std.specs.Prelude.{if◌then◌else◌}
-use mathlib.Core.Path.{◌≡◌, sym, ◌∙◌}
-use mathlib.Core.Bool.{Bool, true, false, not}
-use mathlib.Core.List.{List, ◌∷◌}
-use Prim.Native.Nat.{ℕ, ◌+◌, ◌/◌, ◌<◌, ◌≤◌}
-use native.Mathlib.Omega.{arith}
-use borrow.Author.Tests.{ne_eqb, not-true, not-false, ltb-true}
-use lib.Dec.{eqb, ltb}
-use lib.ListN.{length, drop}
+use Rattle.std.proofs.Common.{if◌then◌else◌, ◌≡◌, sym, ◌∙◌, Bool, true, false, not, List, ◌∷◌, ℕ, ◌+◌, ◌/◌, ◌<◌, ◌≤◌, arith, ne_eqb, ltb-true, eqb, ltb, length, drop, Option, Some, None}
+use borrow.Author.Tests.{not-true, not-false}
 use Rattle.event.specs.declared.Event.{Event}
 use Rattle.event.specs.Event.{is_enter, event_at, events_of}
 use Rattle.event.proofs.Laws.{events-next, events-end}
 use Rattle.character_reference.specs.declared.Marker.TheVariants.{Named, Decimal, Hexadecimal}
 use Rattle.check_slices.specs.declared.Seen.{Seen}
 use Rattle.check_slices.specs.declared.Counts.{Counts}
-use Rattle.check_slices.specs.declared.FirstWrong.{FirstWrong}
-use Rattle.check_slices.specs.declared.FirstWrong.TheVariants.{Yes, At}
 use Rattle.check_slices.specs.First.{first_from}
 use Rattle.check_slices.specs.Slices.{nothing_seen, with_sequence, with_marker, seen_behind, slice_holds, part, event_holds, slices_of}
 use Rattle.check_slices.specs.Counts.{none_counted, Few, counted_behind, count_holds, counts_of}
@@ -23,12 +14,12 @@ use Rattle.check_slices.proofs.First.{holds_at, First, yes-all, all_yes, at_firs
 
 -- ---- a pass, from the event i on
 
-module _ {S : Type 0} (holds : S → Event → Bool) (behind : S → Event → S) (b : List ℕ) (i n : ℕ) (s : S) (w : FirstWrong) (left : first_from holds behind i s (drop i (events_of b)) ≡ w) (l : n ≡ length b / 20) where
+module _ {S : Type 0} (holds : S → Event → Bool) (behind : S → Event → S) (b : List ℕ) (i n : ℕ) (s : S) (w : Option ℕ) (left : first_from holds behind i s (drop i (events_of b)) ≡ w) (l : n ≡ length b / 20) where
   module _ (h : i < n) (e : Event) (p : e ≡ event_at b i) (x : Bool) (q : x ≡ holds s e) where
     at-event : first_from holds behind i s (e ∷ drop (i + 1) (events_of b)) ≡ w
     at-event = let k : i < length b / 20 = omega arith in rw (events-next b i k, ← p) at left
 
-    pub stops : not x ≡ true → At i ≡ w
+    pub stops : not x ≡ true → Some i ≡ w
     unfolding first_from
     stops t = rw (← q, not-true x t) at at-event
 
@@ -36,7 +27,7 @@ module _ {S : Type 0} (holds : S → Event → Bool) (behind : S → Event → S
     unfolding first_from
     goes_on t u r = rw (← q, not-false x t, ← r) at at-event
 
-  pub ends : n ≤ i → Yes ≡ w
+  pub ends : n ≤ i → None ≡ w
   unfolding first_from
   ends h = let k : length b / 20 ≤ i = omega arith in rw (events-end b i k) at left
 
@@ -130,35 +121,35 @@ stays-few n m e x few p h q = rw q (few-by (is_enter e) (eqb e.name 53) (eqb e.n
 -- ---- what the two answers say: yes exactly where every event holds in its state, a place exactly where it is the first that does not
 
 module _ (text events : List ℕ) where
-  pub slices-yes : slices_of text events ≡ Yes → (k : ℕ) → holds_at (event_holds text) seen_behind nothing_seen (events_of events) k ≡ true
+  pub slices-yes : slices_of text events ≡ None → (k : ℕ) → holds_at (event_holds text) seen_behind nothing_seen (events_of events) k ≡ true
   unfolding slices_of
   slices-yes p k = yes-all (event_holds text) seen_behind 0 nothing_seen (events_of events) p k
 
-  pub yes-slices : ((k : ℕ) → holds_at (event_holds text) seen_behind nothing_seen (events_of events) k ≡ true) → slices_of text events ≡ Yes
+  pub yes-slices : ((k : ℕ) → holds_at (event_holds text) seen_behind nothing_seen (events_of events) k ≡ true) → slices_of text events ≡ None
   unfolding slices_of
   yes-slices p = all_yes (event_holds text) seen_behind 0 nothing_seen (events_of events) p
 
-  pub slices-at : (i : ℕ) → slices_of text events ≡ At i → First (event_holds text) seen_behind 0 nothing_seen (events_of events) i
+  pub slices-at : (i : ℕ) → slices_of text events ≡ Some i → First (event_holds text) seen_behind 0 nothing_seen (events_of events) i
   unfolding slices_of
   slices-at i p = at_first (event_holds text) seen_behind 0 nothing_seen (events_of events) i p
 
-  pub at-slices : (i : ℕ) → First (event_holds text) seen_behind 0 nothing_seen (events_of events) i → slices_of text events ≡ At i
+  pub at-slices : (i : ℕ) → First (event_holds text) seen_behind 0 nothing_seen (events_of events) i → slices_of text events ≡ Some i
   unfolding slices_of
   at-slices i p = first-at (event_holds text) seen_behind 0 nothing_seen (events_of events) i p
 
 module _ (events : List ℕ) where
-  pub counts-yes : counts_of events ≡ Yes → (k : ℕ) → holds_at count_holds counted_behind none_counted (events_of events) k ≡ true
+  pub counts-yes : counts_of events ≡ None → (k : ℕ) → holds_at count_holds counted_behind none_counted (events_of events) k ≡ true
   unfolding counts_of
   counts-yes p k = yes-all count_holds counted_behind 0 none_counted (events_of events) p k
 
-  pub yes-counts : ((k : ℕ) → holds_at count_holds counted_behind none_counted (events_of events) k ≡ true) → counts_of events ≡ Yes
+  pub yes-counts : ((k : ℕ) → holds_at count_holds counted_behind none_counted (events_of events) k ≡ true) → counts_of events ≡ None
   unfolding counts_of
   yes-counts p = all_yes count_holds counted_behind 0 none_counted (events_of events) p
 
-  pub counts-at : (i : ℕ) → counts_of events ≡ At i → First count_holds counted_behind 0 none_counted (events_of events) i
+  pub counts-at : (i : ℕ) → counts_of events ≡ Some i → First count_holds counted_behind 0 none_counted (events_of events) i
   unfolding counts_of
   counts-at i p = at_first count_holds counted_behind 0 none_counted (events_of events) i p
 
-  pub at-counts : (i : ℕ) → First count_holds counted_behind 0 none_counted (events_of events) i → counts_of events ≡ At i
+  pub at-counts : (i : ℕ) → First count_holds counted_behind 0 none_counted (events_of events) i → counts_of events ≡ Some i
   unfolding counts_of
   at-counts i p = first-at count_holds counted_behind 0 none_counted (events_of events) i p

@@ -1,9 +1,8 @@
 -- Refusal 6 (RULES R7.4): at most 128 definitions and 64 footnote definitions. Assumes nothing.
-use Rattle.std.specs.Prelude.{Bool, true, List, ℕ, ◌+◌, ◌≤◌, eqb, ltb, if◌then◌else◌}
+use Rattle.std.specs.Prelude.{Bool, true, List, ℕ, ◌+◌, ◌≤◌, eqb, ltb, if◌then◌else◌, Option}
 use Rattle.event.specs.declared.Event.{Event}
 use Rattle.event.specs.Event.{is_enter, events_of}
 use Rattle.check_slices.specs.declared.Counts.{Counts}
-use Rattle.check_slices.specs.declared.FirstWrong.{FirstWrong}
 use Rattle.check_slices.specs.First.{first_from}
 
 abbrev pub none_counted : Counts
@@ -32,6 +31,6 @@ count_holds n e =
     else true))
     else true
 
--- yes, or the first enter that is one too many
-unfoldable pub counts_of : (events : List ℕ) → FirstWrong
+-- the first enter that is one too many
+unfoldable pub counts_of : (events : List ℕ) → Option ℕ
 counts_of events = first_from count_holds counted_behind 0 none_counted (events_of events)

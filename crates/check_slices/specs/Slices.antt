@@ -1,5 +1,5 @@
 -- Refusal 5 (RULES R5): what the slice of an exit has to be. Assumes nothing.
-use Rattle.std.specs.Prelude.{Bool, true, false, ◌&&◌, ◌||◌, List, [], ◌∷◌, ℕ, ◌-◌, eqb, length, take, drop, if◌then◌else◌}
+use Rattle.std.specs.Prelude.{Bool, true, false, ◌&&◌, ◌||◌, List, [], ◌∷◌, ℕ, ◌-◌, eqb, length, take, drop, if◌then◌else◌, Option}
 use Rattle.lent.specs.Bytes.{bytes, between, one_of, all, listed, is_digit}
 use Rattle.event.specs.declared.Event.{Event}
 use Rattle.event.specs.Event.{is_enter, events_of}
@@ -7,7 +7,6 @@ use Rattle.character_reference.specs.declared.Marker.{Marker}
 use Rattle.character_reference.specs.declared.Marker.TheVariants.{Named, Decimal, Hexadecimal}
 use Rattle.character_reference.specs.Reference.{reference_of, is_some}
 use Rattle.check_slices.specs.declared.Seen.{Seen}
-use Rattle.check_slices.specs.declared.FirstWrong.{FirstWrong}
 use Rattle.check_slices.specs.First.{first_from}
 
 -- ---- the rules
@@ -74,6 +73,6 @@ part text from to = take (to - from) (drop from text)
 unfoldable pub event_holds : (text : List ℕ) → Seen → Event → Bool
 event_holds text seen e = is_enter e || slice_holds seen e.name (part text e.from.0 e.to.0)
 
--- yes, or the first exit whose slice breaks its rule
-unfoldable pub slices_of : (text events : List ℕ) → FirstWrong
+-- the first exit whose slice breaks its rule
+unfoldable pub slices_of : (text events : List ℕ) → Option ℕ
 slices_of text events = first_from (event_holds text) seen_behind 0 nothing_seen (events_of events)

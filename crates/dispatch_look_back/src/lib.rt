@@ -54,10 +54,8 @@ pub fn look_back(events: &[u8], i: EventIndex) -> u8
     requires { i.0 ≤ count_of events.now }
     ensures { result ≡ name_of (look_back 0 (events_before events.now i.0)) }
 {
-    let mut k = i.0;
     let mut depth: usize = 0;
-    while 0 < k {
-        k -= 1;
+    for k in (0..i.0).rev() {
         let e = Event::read(events, EventIndex(k));
         if ends_at(depth, e) {
             return e.name;

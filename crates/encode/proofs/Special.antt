@@ -1,8 +1,6 @@
 -- Which blocks hold a byte that becomes something else: markup, or an apostrophe where those are escaped. Assumes nothing.
-use mathlib.Core.Path.{◌≡◌, refl, sym, ◌∙◌}
-use mathlib.Core.Bool.{Bool, true, false, ◌&&◌, ◌||◌, or-true}
-use mathlib.Core.List.{List, [], ◌∷◌}
-use Prim.Native.Nat.{ℕ}
+use Rattle.std.proofs.Common.{◌≡◌, refl, sym, ◌∙◌, Bool, true, false, ◌&&◌, ◌||◌, List, [], ◌∷◌, ℕ}
+use mathlib.Core.Bool.{or-true}
 use Rattle.lent.specs.Bytes.{any}
 use Rattle.encode_byte.specs.declared.Escaping.{Escaping}
 use Rattle.encode_byte.specs.Byte.{escapes_html, escapes_apostrophes}
@@ -36,6 +34,3 @@ module _ (on : Escaping) (l : List ℕ) {html x : Bool} (h : html ≡ escapes_ht
   module _ {y : Bool} (r : y ≡ escapes_apostrophes on) (q : x ≡ false) where
     pub by-apostrophe : {z : Bool} → y ≡ true → z ≡ any is_apostrophe l → z ≡ any (is_special on) l
     by-apostrophe s t = sym (special ∙ rw (q, ← r, s, ← t))
-
-    pub by-neither : y ≡ false → false ≡ any (is_special on) l
-    by-neither s = sym (special ∙ rw (q, ← r, s))

@@ -1,60 +1,58 @@
 // Text made safe for HTML, as `encode.rs`. Sixteen bytes that all stay are copied at once, others one by one.
 #![tactic(auto)]
 
-ghost use Rattle.std.specs.Prelude.{◌+◌, ◌≤◌, ◌≡◌, length, take, drop};
+ghost use Rattle.std.specs.Prelude.{ℕ, Bool, ◌≡◌};
 ghost use Rattle.lent.specs.Bytes.{any};
-ghost use Rattle.lent.specs.Fill.{Filled};
-ghost use Rattle.encode_byte.specs.Private.{is_markup, is_apostrophe, is_special};
+ghost use Rattle.lent.specs.Writer.{Writes};
+ghost use Rattle.encode_byte.specs.Private.{is_markup, is_special};
 ghost use Rattle.encode.specs.Encode.{encode_of};
+ghost use Rattle.encode.specs.Private.{IsTest};
 
 use encode_byte::Escaping;
+use lent::Writer;
+
+// So many bytes are looked at together.
+const BLOCK: usize = 16;
 
 // Appends `value`, with NUL replaced and the bytes that `escaping` says as character references.
-pub fn encode(value: &[u8], escaping: Escaping, out: &mut [u8], at: usize) -> usize
-    ensures { Filled out.old at (encode_of escaping value.now) out.new result }
+pub fn encode(value: &[u8], escaping: Escaping, out: &mut Writer)
+    ensures { Writes (encode_of escaping value.now) out.old out.new }
 {
-    let mut r = at;
-    let mut i = 0;
-    while 16 <= value.len() - i {
-        r = put_block(value, i, escaping, out, r);
-        i += 16;
+    let (blocks, rest) = value.as_chunks::<BLOCK>();
+    for block in blocks {
+        put_block(block, escaping, out);
     }
-    put_bytes(&value[i..], escaping, out, r)
+    put_bytes(rest, escaping, out);
 }
 
-fn put_block(value: &[u8], i: usize, escaping: Escaping, out: &mut [u8], at: usize) -> usize
-    requires { i + 16 ≤ length value.now }
-    ensures { Filled out.old at (encode_of escaping (take 16 (drop i value.now))) out.new result }
+fn put_block(block: &[u8; BLOCK], escaping: Escaping, out: &mut Writer)
+    ensures { Writes (encode_of escaping block.now) out.old out.new }
 {
-    if has_special(value, i, escaping) {
-        return put_bytes(&value[i..i + 16], escaping, out, at);
+    if has_special(block, escaping) {
+        put_bytes(block, escaping, out);
+        return;
     }
-    lent::put_sixteen(out, at, &value[i..i + 16])
+    out.put_exact::<BLOCK>(block);
 }
 
-fn put_bytes(value: &[u8], escaping: Escaping, out: &mut [u8], at: usize) -> usize
-    ensures { Filled out.old at (encode_of escaping value.now) out.new result }
+fn put_bytes(value: &[u8], escaping: Escaping, out: &mut Writer)
+    ensures { Writes (encode_of escaping value.now) out.old out.new }
 {
-    let mut r = at;
-    let mut i = 0;
-    while i < value.len() {
-        r = encode_byte::put_byte(value[i], escaping, out, r);
-        i += 1;
+    for &b in value {
+        encode_byte::put_byte(b, escaping, out);
     }
-    r
 }
 
 // Whether some byte of a block becomes something else. Apostrophes are looked for only where they are escaped.
-fn has_special(value: &[u8], i: usize, escaping: Escaping) -> bool
-    requires { i + 16 ≤ length value.now }
-    ensures { result ≡ any (is_special escaping) (take 16 (drop i value.now)) }
+fn has_special(block: &[u8; BLOCK], escaping: Escaping) -> bool
+    ensures { result ≡ any (is_special escaping) block.now }
 {
     let html = encode_byte::escapes_html(escaping);
-    if has_markup(value, i, html) {
+    if has_any(block, |b| is_markup(b, html)) {
         return true;
     }
     if encode_byte::escapes_apostrophes(escaping) {
-        return has_apostrophe(value, i);
+        return has_any(block, |b| b == b'\'');
     }
     false
 }
@@ -66,29 +64,14 @@ fn is_markup(b: u8, html: bool) -> bool
     (b == 0) | (html & ((b == 34) | (b == 38) | (b == 60) | (b == 62)))
 }
 
-// It looks at each byte, so that the compiler can look at all at once.
-fn has_markup(value: &[u8], i: usize, html: bool) -> bool
-    requires { i + 16 ≤ length value.now }
-    ensures { result ≡ any (is_markup html) (take 16 (drop i value.now)) }
+// Whether some byte of a block passes a test. It looks at each, so that the compiler can look at all at once.
+pub fn has_any<F: Fn(u8) -> bool>(block: &[u8], test: F) -> bool
+    requires { F.IsAlwaysCallable test }
+    ensures { (f : ℕ → Bool) → IsTest (F.post test) f → result ≡ any f block.now }
 {
     let mut found = false;
-    let mut k = 0usize;
-    while k < 16 {
-        found = found | is_markup(value[i + k], html);
-        k += 1;
-    }
-    found
-}
-
-fn has_apostrophe(value: &[u8], i: usize) -> bool
-    requires { i + 16 ≤ length value.now }
-    ensures { result ≡ any is_apostrophe (take 16 (drop i value.now)) }
-{
-    let mut found = false;
-    let mut k = 0usize;
-    while k < 16 {
-        found = found | (value[i + k] == 39);
-        k += 1;
+    for &b in block {
+        found = found | test(b);
     }
     found
 }

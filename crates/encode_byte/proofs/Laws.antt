@@ -1,14 +1,6 @@
 -- What the code of `encode_byte` goes by, and the laws that callers cite. Assumes nothing.
-use Rattle.std.specs.Prelude.{if◌then◌else◌}
-use mathlib.Core.Path.{◌≡◌, refl, sym, ◌∙◌}
-use mathlib.Core.Bool.{Bool, true, false, ◌||◌, or-false}
-use mathlib.Core.List.{List, [], ◌∷◌}
-use Prim.Native.Nat.{ℕ, min}
-use native.Mathlib.Omega.{arith}
-use borrow.Author.Tests.{ne_eqb}
-use lib.Dec.{eqb}
-use mir.Syntax.{w8}
-use mir.Val.{Fits}
+use Rattle.std.proofs.Common.{if◌then◌else◌, ◌≡◌, refl, sym, ◌∙◌, Bool, true, false, ◌||◌, List, [], ◌∷◌, ℕ, min, arith, ne_eqb, eqb, w8, Fits}
+use mathlib.Core.Bool.{or-false}
 use Rattle.lent.specs.Bytes.{bytes, has_bit}
 use Rattle.lent.proofs.Computed.{agree}
 use Rattle.lent.proofs.Laws.{or_left, or_right}

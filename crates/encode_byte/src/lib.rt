@@ -1,10 +1,12 @@
 // One byte made safe for HTML, as `encode.rs`.
 #![tactic(auto)]
 
-ghost use Rattle.std.specs.Prelude.{min, ◌≡◌};
-ghost use Rattle.lent.specs.Fill.{Filled};
+ghost use Rattle.std.specs.Prelude.{◌≡◌};
+ghost use Rattle.lent.specs.Writer.{Writes};
 ghost use Rattle.encode_byte.specs.Byte.{escapes_html, escapes_apostrophes, escaping_of, encode_byte};
 ghost use Rattle.encode_byte.specs.Private.{is_special, special_mask};
+
+use lent::Writer;
 
 // What becomes a character reference. NUL is replaced in any case.
 #[derive(Clone, Copy)]
@@ -19,13 +21,11 @@ pub enum Escaping {
 pub fn escaping_of(html: bool, apostrophes: bool) -> Escaping
     ensures { result ≡ escaping_of html apostrophes }
 {
-    if html {
-        if apostrophes {
-            return Escaping::HtmlAndApostrophes;
-        }
-        return Escaping::Html;
+    match (html, apostrophes) {
+        (false, _) => Escaping::Off,
+        (true, false) => Escaping::Html,
+        (true, true) => Escaping::HtmlAndApostrophes,
     }
-    Escaping::Off
 }
 
 pub fn escapes_html(escaping: Escaping) -> bool
@@ -33,8 +33,7 @@ pub fn escapes_html(escaping: Escaping) -> bool
 {
     match escaping {
         Escaping::Off => false,
-        Escaping::Html => true,
-        Escaping::HtmlAndApostrophes => true,
+        Escaping::Html | Escaping::HtmlAndApostrophes => true,
     }
 }
 
@@ -42,52 +41,42 @@ pub fn escapes_apostrophes(escaping: Escaping) -> bool
     ensures { result ≡ escapes_apostrophes escaping }
 {
     match escaping {
-        Escaping::Off => false,
-        Escaping::Html => false,
+        Escaping::Off | Escaping::Html => false,
         Escaping::HtmlAndApostrophes => true,
     }
 }
 
 // Appends one byte, encoded.
-pub fn put_byte(b: u8, escaping: Escaping, out: &mut [u8], at: usize) -> usize
-    ensures { Filled out.old at (encode_byte escaping b) out.new result }
+pub fn put_byte(b: u8, escaping: Escaping, out: &mut Writer)
+    ensures { Writes (encode_byte escaping b) out.old out.new }
 {
     if is_special(b, escaping) {
-        return put_reference(b, out, at);
+        put_reference(b, out);
+        return;
     }
-    lent::put(out, at, b)
+    out.put(b);
 }
 
 // The texts have a function of their own: it alone pays for having them at hand.
-fn put_reference(b: u8, out: &mut [u8], at: usize) -> usize
-    ensures { Filled out.old at (encode_byte Escaping.HtmlAndApostrophes b) out.new result }
+fn put_reference(b: u8, out: &mut Writer)
+    ensures { Writes (encode_byte Escaping.HtmlAndApostrophes b) out.old out.new }
 {
-    if b == 0 {
-        return lent::put_all(out, at, b"\xEF\xBF\xBD");
+    match b {
+        0 => out.put_all(b"\xEF\xBF\xBD"),
+        b'&' => out.put_all(b"&amp;"),
+        b'<' => out.put_all(b"&lt;"),
+        b'>' => out.put_all(b"&gt;"),
+        b'"' => out.put_all(b"&quot;"),
+        b'\'' => out.put_all(b"&#39;"),
+        _ => out.put(b),
     }
-    if b == b'&' {
-        return lent::put_all(out, at, b"&amp;");
-    }
-    if b == b'<' {
-        return lent::put_all(out, at, b"&lt;");
-    }
-    if b == b'>' {
-        return lent::put_all(out, at, b"&gt;");
-    }
-    if b == b'"' {
-        return lent::put_all(out, at, b"&quot;");
-    }
-    if b == b'\'' {
-        return lent::put_all(out, at, b"&#39;");
-    }
-    lent::put(out, at, b)
 }
 
 // Whether a byte becomes something else, by a mask of the bytes below 63.
 fn is_special(b: u8, escaping: Escaping) -> bool
     ensures { result ≡ is_special escaping b }
 {
-    lent::has_bit(special_mask(escaping), at_most_63(b))
+    lent::has_bit(special_mask(escaping), b.min(63))
 }
 
 // NUL is bit 0; then the bits 34, 38, 60 and 62; then 39.
@@ -99,10 +88,4 @@ fn special_mask(escaping: Escaping) -> u64
         Escaping::Html => 0x5000004400000001,
         Escaping::HtmlAndApostrophes => 0x500000c400000001,
     }
-}
-
-fn at_most_63(b: u8) -> u8
-    ensures { result ≡ min b 63 }
-{
-    if b < 63 { b } else { 63 }
 }

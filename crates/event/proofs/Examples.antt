@@ -1,7 +1,5 @@
 -- Records worked by hand. Assumes nothing.
-use mathlib.Core.Path.{◌≡◌, refl}
-use mathlib.Core.List.{List, [], ◌∷◌, ◌++◌}
-use Prim.Native.Nat.{ℕ}
+use Rattle.std.proofs.Common.{◌≡◌, refl, List, [], ◌∷◌, ◌++◌, ℕ}
 use Rattle.little.specs.Little.{little, number}
 use Rattle.event.specs.declared.Event.{Event}
 use Rattle.event.specs.Event.{event_of, events_of, events_in, record_of, alignments_from, alignments_of}

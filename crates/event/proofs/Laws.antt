@@ -1,14 +1,7 @@
 -- The laws of event records: what other crates cite. Assumes nothing.
-use mathlib.Core.Path.{◌≡◌, refl, sym, ap, ◌∙◌}
-use mathlib.Core.List.{List, [], ◌∷◌}
-use Prim.Native.Nat.{ℕ, zero, suc, ◌+◌, ◌-◌, ◌*◌, ◌/◌, ◌%◌, ◌^◌, ◌≤◌, ◌<◌}
-use native.Mathlib.Nat.{zero-add, lt_of_lt_of_le, div-eq_of_lt}
-use native.Mathlib.Numerals.{add-one}
-use native.Mathlib.Omega.{arith}
-use lib.Bits.{bit_and, and_mask}
-use lib.Pow.{pow_mono}
-use lib.ListN.{length, take, drop, get_or, drop_of_length-le}
-use lib.Seq.{take_all, take-add, drop-drop, get_or-take, get_or-drop}
+use Rattle.std.proofs.Common.{◌≡◌, refl, sym, ap, ◌∙◌, List, [], ◌∷◌, ℕ, zero, suc, ◌+◌, ◌-◌, ◌*◌, ◌/◌, ◌%◌, ◌^◌, ◌≤◌, ◌<◌, zero-add, lt_of_lt_of_le, add-one, arith, bit_and, pow_mono, length, take, drop, get_or, drop_of_length-le, take_all, take-add, drop-drop, get_or-take, get_or-drop}
+use Rattle.std.proofs.Math.Nat.{div-eq_of_lt}
+use lib.Bits.{and_mask}
 use Rattle.little.specs.Little.{little, field}
 use Rattle.little.proofs.Laws.{one_byte, number-little, little-field, field_below}
 use Rattle.event.specs.declared.Event.{Event}

@@ -42,7 +42,8 @@ impl Event {
 
     pub const EXTRA_AT: usize = 12;
 
-    // The kinds.
+    // The kinds. They stay numbers, and `kind` and `name` bytes: `event_of` reads any byte, and what no rule knows is refused by its
+    // number (RULES R2.1, R4.1).
     pub const ENTER: u8 = 0;
 
     pub const EXIT: u8 = 1;
@@ -231,7 +232,7 @@ impl Event {
         (self.extra & 0xFF) as usize
     }
 
-    // Of a table: a column's alignment, 0 none, 1 left, 2 right, 3 center.
+    // Of a table: a column's alignment, 0 none, 1 left, 2 right, 3 center, a number as in `alignment_of` (RULES R2.4).
     pub fn alignment(self, column: usize) -> u64
         ensures { result ≡ alignment_of self column }
     {

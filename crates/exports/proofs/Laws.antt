@@ -1,29 +1,23 @@
 -- From an answer to what C is told of it, and back. Assumes nothing.
-use mathlib.Core.Path.{◌≡◌, refl, ap, ◌∙◌}
-use mathlib.Core.Bool.{Bool, true, false}
-use mathlib.Core.List.{List}
-use Prim.Native.Nat.{ℕ, ◌/◌, ◌%◌}
+use Rattle.std.proofs.Common.{◌≡◌, refl, ap, ◌∙◌, Bool, true, false, List, ℕ, ◌/◌, ◌%◌, ne_eqb, Result}
 use mir.Val.{bool_byte}
-use borrow.Author.Tests.{ne_eqb}
 use Rattle.bundle_block.specs.declared.Refusal.{Refusal}
 use Rattle.bundle_block.specs.declared.Refusal.TheVariants.{Short, Broken, BadCheck, OtherEdition}
-use Rattle.bundle_read.specs.declared.Answer.{Answer}
-use Rattle.bundle_read.specs.declared.Answer.TheVariants.{Bundle, Refused}
-use Rattle.bundle_parts.specs.declared.Progress.{Progress}
-use Rattle.bundle_parts.specs.declared.Progress.TheVariants.{More, Done}
+use Rattle.std.specs.Prelude.{Some, None, Ok, Err}
+use Rattle.bundle_read.specs.Read.{Answer}
 use Rattle.bundle_parts.specs.declared.Reader.{Reader}
-use Rattle.bundle_parts.specs.Feed.{stand_of, start_of, feed_of, end_of}
+use Rattle.bundle_parts.specs.Feed.{Progress, stand_of, start_of, feed_of, end_of}
 use Rattle.bundle_known.specs.declared.Known.{Known}
-use Rattle.call_build_answer.specs.declared.Built.{Built}
+use Rattle.call_build_answer.specs.Built.{Built}
 use Rattle.call_build.specs.Build.{Builds}
 use Rattle.encode_byte.specs.declared.Escaping.{Escaping}
 use Rattle.encode_byte.specs.Byte.{escaping_of}
 use Rattle.encode.specs.Encode.{encode_of}
 use Rattle.sanitize_uri.specs.Url.{sanitize_of}
 use Rattle.sanitize_uri.specs.Protocols.{link_schemes, image_schemes, sanitize_with_protocols_of}
-use Rattle.call_links_answer.specs.declared.Listed.{Listed}
+use Rattle.call_links_answer.specs.declared.Refusal as K
 use Rattle.call_links_answer.specs.Listed.{Lists}
-use Rattle.call_text_answer.specs.declared.Written.{Written}
+use Rattle.call_text_answer.specs.declared.Refusal as T
 use Rattle.call_text_answer.specs.Written.{Wrote}
 use Rattle.character_reference.specs.declared.Names.{Names}
 use Rattle.machine.specs.declared.Ending.{Ending}
@@ -36,19 +30,6 @@ use Rattle.exports.specs.declared.NotepageReader.{NotepageReader}
 use Rattle.exports.specs.Told.{Told, of_written, of_listed, of_built, of_read, of_progress, is_done}
 use Rattle.exports.specs.Given.{has_bit, ending_of, names_of, options_of, escaping_in}
 use Rattle.exports.specs.Reader.{is_set, refusal_of, answer_of, progress_of, known_of, reader_of}
-
--- ---- answers
-
-pub answers : {n v m u : ℕ} → n ≡ m → v ≡ u → ◌≡◌ {A = NotepageAnswer} (record { number = n; value = v }) (record { number = m; value = u })
-answers p q = rw (p, q)
-
-pub normalizes : {n v w n' v' w' : ℕ} → n ≡ n' → v ≡ v' → w ≡ w'
-    → ◌≡◌ {A = NotepageNormalized} (record { number = n; value = v; visits = w }) (record { number = n'; value = v'; visits = w' })
-normalizes p q s = rw (p, q, s)
-
-pub reads : {n d v e n' d' v' e' : ℕ} → n ≡ n' → d ≡ d' → v ≡ v' → e ≡ e'
-    → ◌≡◌ {A = NotepageRead} (record { number = n; edition = d; value = v; events = e }) (record { number = n'; edition = d'; value = v'; events = e' })
-reads p q s t = rw (p, q, s, t)
 
 -- ---- options
 
@@ -87,19 +68,19 @@ pub refusal-broken : (n place : ℕ) → (n ≡ 1 → ⊥) → (n ≡ 11 → ⊥
 unfolding refusal_of
 refusal-broken n place p q r = rw (ne_eqb n 1 p, ne_eqb n 11 q, ne_eqb n 12 r)
 
-pub answer-bundle : (a : NotepageRead) → a.number ≡ 0 → Bundle a.value a.events a.edition ≡ answer_of a
+pub answer-bundle : (a : NotepageRead) → a.number ≡ 0 → Ok (record { text = a.value; events = a.events; edition = a.edition }) ≡ answer_of a
 unfolding answer_of
 answer-bundle a h = rw h
 
-pub answer-refused : (a : NotepageRead) {r : Refusal} → (a.number ≡ 0 → ⊥) → r ≡ refusal_of a.number a.value → Refused r ≡ answer_of a
+pub answer-refused : (a : NotepageRead) {r : Refusal} → (a.number ≡ 0 → ⊥) → r ≡ refusal_of a.number a.value → Err r ≡ answer_of a
 unfolding answer_of
 answer-refused a h k = rw (ne_eqb a.number 0 h, k)
 
-pub progress-more : {n : ℕ} (a : NotepageRead) → n ≡ 0 → More ≡ progress_of n a
+pub progress-more : {n : ℕ} (a : NotepageRead) → n ≡ 0 → None ≡ progress_of n a
 unfolding progress_of
 progress-more a h = rw h
 
-pub progress-done : (n : ℕ) (a : NotepageRead) {r : Answer} → (n ≡ 0 → ⊥) → r ≡ answer_of a → Done r ≡ progress_of n a
+pub progress-done : (n : ℕ) (a : NotepageRead) {r : Answer} → (n ≡ 0 → ⊥) → r ≡ answer_of a → Some r ≡ progress_of n a
 unfolding progress_of
 progress-done n a h k = rw (ne_eqb n 0 h, k)
 
@@ -109,22 +90,16 @@ set_told false = refl
 
 answer-told : (a : Answer) → answer_of (of_read a) ≡ a
 unfolding answer_of refusal_of
-answer-told (Bundle t e d) = refl
-answer-told (Refused Short) = refl
-answer-told (Refused (Broken b)) = refl
-answer-told (Refused (BadCheck b)) = refl
-answer-told (Refused (OtherEdition b)) = refl
+answer-told (Ok c) = refl
+answer-told (Err Short) = refl
+answer-told (Err (Broken b)) = refl
+answer-told (Err (BadCheck b)) = refl
+answer-told (Err (OtherEdition b)) = refl
 
 pub progress-told : (p : Progress) → progress_of (bool_byte (is_done p)) (of_progress p) ≡ p
 unfolding progress_of
-progress-told More = refl
-progress-told (Done a) = ap Done (answer-told a)
-
-pub progress-asked : {p : Progress} → p ≡ More → ◌≡◌ {A = NotepageRead} (record { number = 255; edition = 0; value = 0; events = 0 }) (of_progress p)
-progress-asked h = rw h
-
-pub progress-read : {p : Progress} {a : Answer} {r : NotepageRead} → p ≡ Done a → r ≡ of_read a → r ≡ of_progress p
-progress-read h k = rw (h, k)
+progress-told None = refl
+progress-told (Some a) = ap Some (answer-told a)
 
 pub reader-given : (r : NotepageReader) {k : Known} {p : Progress} → k ≡ known_of r → p ≡ progress_of r.done r.answer
     → ◌≡◌ {A = Reader} (record { state = record { known = k; held = r.held; over = is_set r.over; progress = p }; rest = r.rest }) (reader_of r)
@@ -161,35 +136,6 @@ zero-starts t e r a b c d f g h i j = rw (a, b, c, d, f, g, h, i, j)
 pub builds : {text events out work out' work' : List ℕ} {o : Options} {b : Built} (n : ℕ) {r : NotepageAnswer} → o ≡ options_of n → Builds text events o out work out' work' b → r ≡ of_built b
     → Told (Builds text events (options_of n) out work out' work') of_built r
 builds {b = b} n e k q = record { answer = b; meets = rw (← e) k; tells = q }
-
-pub escapes : {text d e : List ℕ} {x : Escaping} {w : Written} (n : ℕ) {r : NotepageAnswer} → x ≡ escaping_in n → Wrote text (encode_of x text) d e w → r ≡ of_written w
-    → Told (Wrote text (encode_of (escaping_in n) text) d e) of_written r
-escapes {w = w} n e k q = record { answer = w; meets = rw (← e) k; tells = q }
-
--- which escaping the bits give
-pub escaping : {a b : Bool} {x : Escaping} (n : ℕ) → a ≡ has_bit 1 n → b ≡ has_bit 8 n → x ≡ escaping_of a b → x ≡ escaping_in n
-escaping n p q k = k ∙ rw (p, q)
-
--- a call that writes f of its text, by bit 3
-pub sanitizes : {text d e : List ℕ} {x : Bool} {w : Written} (f : Bool → List ℕ → List ℕ) (n : ℕ) {r : NotepageAnswer} → x ≡ has_bit 8 n → Wrote text (f x text) d e w → r ≡ of_written w
-    → Told (Wrote text (f (has_bit 8 n) text) d e) of_written r
-sanitizes {w = w} f n e k q = record { answer = w; meets = rw (← e) k; tells = q }
-
-pub sanitize-told : {text d e : List ℕ} {x : Bool} {w : Written} (n : ℕ) {r : NotepageAnswer} → x ≡ has_bit 8 n → Wrote text (sanitize_of x text) d e w → r ≡ of_written w
-    → Told (Wrote text (sanitize_of (has_bit 8 n) text) d e) of_written r
-sanitize-told n e k q = sanitizes sanitize_of n e k q
-
-pub link-told : {text d e : List ℕ} {x : Bool} {w : Written} (n : ℕ) {r : NotepageAnswer} → x ≡ has_bit 8 n → Wrote text (sanitize_with_protocols_of x link_schemes text) d e w → r ≡ of_written w
-    → Told (Wrote text (sanitize_with_protocols_of (has_bit 8 n) link_schemes text) d e) of_written r
-link-told n e k q = sanitizes (λ a. sanitize_with_protocols_of a link_schemes) n e k q
-
-pub image-told : {text d e : List ℕ} {x : Bool} {w : Written} (n : ℕ) {r : NotepageAnswer} → x ≡ has_bit 8 n → Wrote text (sanitize_with_protocols_of x image_schemes text) d e w → r ≡ of_written w
-    → Told (Wrote text (sanitize_with_protocols_of (has_bit 8 n) image_schemes text) d e) of_written r
-image-told n e k q = sanitizes (λ a. sanitize_with_protocols_of a image_schemes) n e k q
-
-pub lists-told : {text ends d l e m : List ℕ} {x : Bool} {w : Listed} (n : ℕ) {r : NotepageAnswer} → x ≡ has_bit 8 n → Lists x text ends d l e m w → r ≡ of_listed w
-    → Told (Lists (has_bit 8 n) text ends d l e m) of_listed r
-lists-told {w = w} n e k q = record { answer = w; meets = rw (← e) k; tells = q }
 
 pub starts : (r : NotepageReader) {x : Reader} → reader_of r ≡ x → ((t e : List ℕ) → stand_of x t e ≡ start_of t e) → (t e : List ℕ) → stand_of (reader_of r) t e ≡ start_of t e
 starts r h f t e = rw h (f t e)

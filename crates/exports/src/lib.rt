@@ -13,22 +13,18 @@ ghost use Rattle.check_list.specs.Checked.{Checks};
 ghost use Rattle.call_build.specs.Build.{Builds};
 ghost use Rattle.call_text_answer.specs.Written.{Wrote};
 ghost use Rattle.call_normalize.specs.Normalized.{HasNormalized};
-ghost use Rattle.exports.specs.Told.{Told, of_written, of_normalized, of_listed, of_checked, of_built, of_packed, of_read, of_progress, is_done};
+ghost use Rattle.exports.specs.Told.{Told, of_written, of_normalized, of_listed, of_checked, of_built, of_packed, of_read, of_progress};
 ghost use Rattle.exports.specs.Given.{has_bit, ending_of, names_of, options_of, escaping_in};
 ghost use Rattle.call_links_answer.specs.Listed.{Lists};
 ghost use Rattle.exports.specs.Reader.{refusal_of, answer_of, progress_of, known_of, reader_of};
 
 use bundle_block::Refusal;
 use bundle_known::Known;
-use bundle_parts::{Progress, Reader, State};
-use bundle_read::Answer;
-use bundle_writer::Packed;
-use call_build_answer::Built;
-use call_links_answer::Listed;
-use call_normalize::Normalized;
-use call_text_answer::Written;
+use bundle_parts::{Reader, State};
+use bundle_read::Contents;
+use bundle_writer::WriteRefusal;
+use call_normalize::Url;
 use character_reference::Names;
-use check_list::Checked;
 use encode_byte::Escaping;
 use machine::{Ending, Options};
 
@@ -258,9 +254,9 @@ pub extern "C" fn notepage_identity(label: &[u8], out: &mut [u8]) -> NotepageAns
     tell_written(written)
 }
 
-// ---- Answers
+// ---- Answers. One function for each type: a trait over them would have an impl for each, and be no shorter.
 
-fn tell_written(w: Written) -> NotepageAnswer
+fn tell_written(w: Result<usize, call_text_answer::Refusal>) -> NotepageAnswer
     ensures { result ≡ of_written w }
 {
     NotepageAnswer {
@@ -269,7 +265,7 @@ fn tell_written(w: Written) -> NotepageAnswer
     }
 }
 
-fn tell_normalized(n: Normalized) -> NotepageNormalized
+fn tell_normalized(n: Result<Url, call_text_answer::Refusal>) -> NotepageNormalized
     ensures { result ≡ of_normalized n }
 {
     NotepageNormalized {
@@ -279,7 +275,7 @@ fn tell_normalized(n: Normalized) -> NotepageNormalized
     }
 }
 
-fn tell_listed(r: Listed) -> NotepageAnswer
+fn tell_listed(r: Result<usize, call_links_answer::Refusal>) -> NotepageAnswer
     ensures { result ≡ of_listed r }
 {
     NotepageAnswer {
@@ -288,7 +284,7 @@ fn tell_listed(r: Listed) -> NotepageAnswer
     }
 }
 
-fn tell_checked(c: Checked) -> NotepageAnswer
+fn tell_checked(c: Result<(), check_list::Refusal>) -> NotepageAnswer
     ensures { result ≡ of_checked c }
 {
     NotepageAnswer {
@@ -297,7 +293,7 @@ fn tell_checked(c: Checked) -> NotepageAnswer
     }
 }
 
-fn tell_built(b: Built) -> NotepageAnswer
+fn tell_built(b: Result<usize, call_build_answer::Refusal>) -> NotepageAnswer
     ensures { result ≡ of_built b }
 {
     NotepageAnswer {
@@ -306,7 +302,7 @@ fn tell_built(b: Built) -> NotepageAnswer
     }
 }
 
-fn tell_packed(p: Packed) -> NotepageAnswer
+fn tell_packed(p: Result<usize, WriteRefusal>) -> NotepageAnswer
     ensures { result ≡ of_packed p }
 {
     NotepageAnswer {
@@ -315,7 +311,7 @@ fn tell_packed(p: Packed) -> NotepageAnswer
     }
 }
 
-fn tell_read(a: Answer) -> NotepageRead
+fn tell_read(a: Result<Contents, Refusal>) -> NotepageRead
     ensures { result ≡ of_read a }
 {
     NotepageRead {
@@ -326,17 +322,17 @@ fn tell_read(a: Answer) -> NotepageRead
     }
 }
 
-fn tell_progress(p: Progress) -> NotepageRead
+fn tell_progress(p: Option<Result<Contents, Refusal>>) -> NotepageRead
     ensures { result ≡ of_progress p }
 {
     match p {
-        Progress::More => NotepageRead {
+        None => NotepageRead {
             number: MORE,
             edition: 0,
             value: 0,
             events: 0,
         },
-        Progress::Done(a) => tell_read(a),
+        Some(a) => tell_read(a),
     }
 }
 
@@ -375,22 +371,17 @@ fn options_of(options: u32) -> Options
 fn ending_of(n: u32) -> Ending
     ensures { result ≡ ending_of n }
 {
-    if n == 1 {
-        return Ending::Cr;
+    match n {
+        1 => Ending::Cr,
+        2 => Ending::CrLf,
+        _ => Ending::Lf,
     }
-    if n == 2 {
-        return Ending::CrLf;
-    }
-    Ending::Lf
 }
 
 fn names_of(html4: bool) -> Names
     ensures { result ≡ names_of html4 }
 {
-    if html4 {
-        return Names::Html4;
-    }
-    Names::Html5
+    if html4 { Names::Html4 } else { Names::Html5 }
 }
 
 // ---- The reader's state
@@ -422,41 +413,37 @@ fn known_of(r: NotepageReader) -> Known
     }
 }
 
-fn progress_of(done: u32, a: NotepageRead) -> Progress
+fn progress_of(done: u32, a: NotepageRead) -> Option<Result<Contents, Refusal>>
     ensures { result ≡ progress_of done a }
 {
     if done == 0 {
-        return Progress::More;
+        return None;
     }
-    Progress::Done(answer_of(a))
+    Some(answer_of(a))
 }
 
-fn answer_of(a: NotepageRead) -> Answer
+fn answer_of(a: NotepageRead) -> Result<Contents, Refusal>
     ensures { result ≡ answer_of a }
 {
     if a.number == 0 {
-        return Answer::Bundle {
+        return Ok(Contents {
             text: a.value,
             events: a.events,
             edition: a.edition,
-        };
+        });
     }
-    Answer::Refused(refusal_of(a.number, a.value))
+    Err(refusal_of(a.number, a.value))
 }
 
 fn refusal_of(number: u32, place: usize) -> Refusal
     ensures { result ≡ refusal_of number place }
 {
-    if number == 1 {
-        return Refusal::Short;
+    match number {
+        1 => Refusal::Short,
+        11 => Refusal::BadCheck(place),
+        12 => Refusal::OtherEdition(place),
+        _ => Refusal::Broken(place),
     }
-    if number == 11 {
-        return Refusal::BadCheck(place);
-    }
-    if number == 12 {
-        return Refusal::OtherEdition(place);
-    }
-    Refusal::Broken(place)
 }
 
 fn tell_reader(r: Reader) -> NotepageReader
@@ -474,18 +461,9 @@ fn tell_reader(r: Reader) -> NotepageReader
         text_came: known.text_came,
         events_came: known.events_came,
         over: state.over as u32,
-        done: is_done(progress) as u32,
+        done: progress.is_some() as u32,
         held: state.held,
         answer: tell_progress(progress),
         rest,
-    }
-}
-
-fn is_done(p: Progress) -> bool
-    ensures { result ≡ is_done p }
-{
-    match p {
-        Progress::More => false,
-        Progress::Done(_) => true,
     }
 }

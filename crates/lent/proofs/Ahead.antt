@@ -1,13 +1,8 @@
 -- Bytes that are moved ahead, past those that are meant: what is appended next covers them. Assumes nothing.
-use mathlib.Core.Path.{◌≡◌, refl, sym, ap, ap₂, ◌∙◌}
-use mathlib.Core.List.{List, [], ◌∷◌, ◌++◌, append-nil}
-use Prim.Native.Nat.{ℕ, zero, suc, ◌+◌, ◌-◌, ◌≤◌, ◌<◌}
-use native.Mathlib.Omega.{arith}
-use lib.ListN.{length, take, drop, length-take, length-drop, length-append, take-append-drop}
-use lib.Seq.{take_all}
+use Rattle.std.proofs.Common.{◌≡◌, sym, ap, ◌∙◌, List, [], ◌∷◌, ◌++◌, append-nil, ℕ, zero, suc, ◌+◌, ◌-◌, ◌≤◌, ◌<◌, arith, length, take, drop, length-take, length-drop, length-append, take-append-drop, take_all}
 use Rattle.lent.specs.Fill.{fill, past, Filled}
 use Rattle.lent.specs.Private.{Ahead}
-use Rattle.lent.proofs.Laws.{fill-empty, fill_suc, fill-zero, fill_none, fill-fill, length-fill, both, none, length-filled, fill-all}
+use Rattle.lent.proofs.Laws.{fill-empty, fill_suc, fill-zero, fill_none, fill-fill, length-fill, both, none, length-filled}
 
 -- what is filled twice from one place on holds the second, if that is as long
 fill-again : (d : List ℕ) (at : ℕ) (s t : List ℕ) → length s ≤ length t → fill (fill d at s) at t ≡ fill d at t
@@ -55,13 +50,11 @@ ahead-over d e s at k n o l m h p =
       long = a;
     }
 
--- the block that was copied whole
-pub ahead-moved : (d e f b s : List ℕ) (at k n : ℕ) → 0 < n → length b ≡ n → length s ≡ n → k ≤ n → n ≤ length d - at → f ≡ fill b 0 (take n s) → e ≡ fill d at (take n f)
-    → Ahead d at (take k s) (n - k) e (at + k)
-ahead-moved d e f b s at k n o p q m h x y =
-    let z : f ≡ s = x ∙ fill-all b s n p q in
+-- through a block that holds what s does
+pub ahead-moved : (d e f s : List ℕ) (at k n : ℕ) → 0 < n → length s ≡ n → k ≤ n → n ≤ length d - at → f ≡ s → e ≡ fill d at (take n f) → Ahead d at (take k s) (n - k) e (at + k)
+ahead-moved d e f s at k n o q m h x y =
     let w : length s ≤ n = omega arith in
-    ahead-over d e s at k n o q m h (y ∙ ap (λ (l : List ℕ). fill d at (take n l)) z ∙ ap (fill d at) (take_all n s w))
+    ahead-over d e s at k n o q m h (y ∙ ap (λ (l : List ℕ). fill d at (take n l)) x ∙ ap (fill d at) (take_all n s w))
 
 -- what follows: nothing where nothing was moved ahead, or a text that is long enough
 pub ahead-end : {d e s : List ℕ} {at r : ℕ} (n : ℕ) → n ≡ 0 → Ahead d at s n e r → Filled d at s e r

@@ -1,11 +1,6 @@
 -- What holds of each number below n by computation, and tests as facts. Assumes nothing.
-use mathlib.Core.Path.{◌≡◌, refl, sym, subst}
-use mathlib.Core.Logic.{⊎_elim}
-use mathlib.Core.Bool.{Bool, true, false, ◌&&◌, ◌||◌, beq}
-use Prim.Native.Nat.{ℕ, zero, suc, suc-le-suc, ◌≤◌, ◌<◌}
-use native.Mathlib.Nat.{le_of_suc-le-suc, not-suc-le-zero, eq-or-lt_of_le}
-use borrow.Author.Tests.{le-ltb}
-use lib.Dec.{T, leb, ltb, leb→le, le→leb}
+use Rattle.std.proofs.Common.{◌≡◌, refl, sym, subst, ⊎_elim, Bool, true, false, ◌&&◌, ◌||◌, ℕ, zero, suc, suc-le-suc, ◌≤◌, ◌<◌, le_of_suc-le-suc, not-suc-le-zero, eq-or-lt_of_le, le-ltb, T, leb, ltb, leb→le, le→leb}
+use Rattle.std.proofs.Math.Bool.{beq}
 use Rattle.lent.specs.Bytes.{between}
 
 -- ---- tests

@@ -1,13 +1,7 @@
 -- The laws of filling: what callers of `lent` go by. Assumes nothing.
-use mathlib.Core.Path.{◌≡◌, refl, sym, ap, ap₂, ◌∙◌}
-use mathlib.Core.Bool.{Bool, true, false, ◌&&◌, ◌||◌, or_assoc, or-false}
-use mathlib.Core.List.{List, [], ◌∷◌, ◌++◌, append-nil, append_assoc}
-use Prim.Native.Nat.{ℕ, zero, suc, ◌+◌, ◌-◌, ◌≤◌, ◌<◌, min, max}
-use native.Mathlib.Nat.{suc-add, zero-add}
-use native.Mathlib.Omega.{arith}
-use native.Mathlib.Numerals.{add-one}
-use lib.ListN.{length, take, drop, set, get_or, replicate, length-append, length-set, length-take, length-drop, drop_of_length-le, take-append-drop}
-use lib.Seq.{drop-cons, take_all, take-suc, take-suc-set, append_snoc, take-length, take-take, take_at}
+use Rattle.std.proofs.Common.{◌≡◌, refl, sym, ap, ap₂, ◌∙◌, Bool, true, false, ◌&&◌, ◌||◌, List, [], ◌∷◌, ◌++◌, append-nil, append_assoc, ℕ, zero, suc, ◌+◌, ◌-◌, ◌≤◌, ◌<◌, suc-add, zero-add, arith, add-one, length, take, drop, set, get_or, length-append, length-set, length-take, length-drop, take-append-drop, drop-drop, drop-cons, take_all, take-suc, take-suc-set, take-take, take_at}
+use Rattle.std.proofs.Math.Bool.{or_assoc, or-false}
+use Rattle.std.proofs.Math.Seq.{append_snoc, take-length}
 use Rattle.lent.specs.Fill.{fill, past, Filled, zeros}
 use Rattle.lent.specs.Bytes.{any, each}
 
@@ -249,14 +243,3 @@ pub clear-end : (d₀ d : List ℕ) (i₀ i : ℕ) → length d ≤ i → take i
 clear-end d₀ d i₀ i h p =
     let e : length d - i ≡ 0 = omega arith in
     sym (append-nil d) ∙ (rw (take_all i d h, e) at p)
-
--- ---- a block that is copied before it is written
-
-pub fill-all : (b s : List ℕ) (n : ℕ) → length b ≡ n → length s ≡ n → fill b 0 (take n s) ≡ s
-unfolding fill
-fill-all b s n p q =
-    let e : length s ≡ length b = omega arith in
-    rw (take_all n s (omega arith)) (take_at s (drop (0 + length s) b) (length b) e)
-
-pub moved : {d e f s : List ℕ} {at r n : ℕ} (b : List ℕ) → length b ≡ n → length s ≡ n → e ≡ fill b 0 (take n s) → Filled d at e f r → Filled d at s f r
-moved {s = s} {n = n} b p q x h = same (sym (x ∙ fill-all b s n p q)) h

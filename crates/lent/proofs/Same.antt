@@ -1,11 +1,6 @@
 -- Two byte strings are the same exactly when they are equal. Assumes nothing.
-use mathlib.Core.Path.{◌≡◌, refl, ap₂}
-use mathlib.Core.Bool.{true}
-use mathlib.Core.List.{List, [], ◌∷◌}
-use mathlib.Core.Logic.{◌↔◌}
-use Prim.Native.Nat.{ℕ}
-use borrow.Author.Tests.{eqb-true, eq-eqb}
-use lib.Dec.{eqb}
+use lib.Pointwise.{pointwise}
+use Rattle.std.proofs.Common.{◌≡◌, refl, ap, ◌∙◌, ap₂, Bool, ◌&&◌, true, List, [], ◌∷◌, ◌↔◌, ℕ, eqb-true, eq-eqb, eqb}
 use Rattle.lent.specs.Bytes.{same}
 use Rattle.lent.proofs.Laws.{and_left, and_right}
 
@@ -22,3 +17,13 @@ same-equal (x ∷ xs) (y ∷ ys) p =
 
 pub same-iff : (s t : List ℕ) → (same s t ≡ true) ↔ (s ≡ t)
 same-iff s t = (same-equal s t, λ p. rw p (same_self t))
+
+-- what the library's `==` of two slices says
+pub same-by-eq : {x : Bool} (s : List ℕ) {t u : List ℕ} → t ≡ u → x ≡ pointwise eqb s t → x ≡ same s u
+same-by-eq s {t} {u} p e = e ∙ ap (pointwise eqb s) p ∙ on s u
+  where
+    on : (s t : List ℕ) → pointwise eqb s t ≡ same s t
+    on [] [] = refl
+    on [] (y ∷ ys) = refl
+    on (x ∷ xs) [] = refl
+    on (x ∷ xs) (y ∷ ys) = ap (λ (b : Bool). eqb x y && b) (on xs ys)

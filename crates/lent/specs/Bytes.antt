@@ -1,6 +1,6 @@
 -- Words that the definitions share: tests on bytes, texts as bytes, and what is made of each byte. Assumes nothing.
-use Rattle.std.specs.Prelude.{Bool, true, false, cond, ◌&&◌, ◌||◌, List, [], ◌∷◌, ◌++◌, ℕ, ◌+◌, ◌-◌, ◌/◌, ◌%◌, ◌^◌, eqb, leb, if◌then◌else◌}
-use Prim.Native.Char.{Char, code}
+use Rattle.std.specs.Prelude.{Bool, true, false, ◌&&◌, ◌||◌, List, [], ◌∷◌, ◌++◌, ℕ, ◌+◌, ◌-◌, ◌/◌, ◌%◌, ◌^◌, eqb, leb, if◌then◌else◌}
+use Prim.Native.Char.{code}
 use Prim.Native.String as S
 use Prim.Native.String.{String}
 

@@ -1,27 +1,38 @@
 -- The laws of numbers in bytes, little endian, over every width. Assumes nothing.
-use mathlib.Core.Path.{◌≡◌, refl, sym, ap, ◌∙◌}
-use mathlib.Core.List.{List, [], ◌∷◌}
-use Prim.Native.Nat.{ℕ, zero, suc, ◌+◌, ◌*◌, ◌/◌, ◌%◌, ◌^◌, ◌≤◌, ◌<◌}
-use native.Mathlib.Nat.{pow-suc, mul_assoc, mul_comm, zero-add, suc-add, mul-zero, div-lt_iff_lt-mul, one-le-pow}
-use native.Mathlib.Omega.{arith}
-use lib.ListN.{length, take, drop, get_or, length-drop}
-use lib.Seq.{take-nil, drop-drop, get_or-drop}
+use Rattle.std.proofs.Common.{w16, w32, w64, ◌≡◌, refl, ap, List, [], ◌∷◌, ℕ, zero, suc, ◌+◌, ◌*◌, ◌/◌, ◌%◌, ◌^◌, ◌≤◌, ◌<◌, pow-suc, div-lt_iff_lt-mul, arith, length, take, drop, get_or, length-drop, get_or-drop}
+use Rattle.std.proofs.Math.Nat.{one-le-pow}
+use Rattle.std.specs.Int.{from_le_bytes}
+use Rattle.lent.proofs.Laws.{next}
 use Rattle.little.specs.Little.{little, number, field}
 
 -- ---- reading
 
--- the first m bytes, and the n behind them
-number-take : (m n : ℕ) (l : List ℕ) → number (take (m + n) l) ≡ number (take m l) + 256 ^ m * number (take n (drop m l))
+-- a byte, and those behind it
+more : (n at m : ℕ) (l : List ℕ) → m ≡ at + 1 → at < length l → field at (suc n) l ≡ get_or l at 0 + 256 * field m n l
 unfolding number
-number-take zero n l = rw zero-add (omega arith)
-number-take (suc m) n [] = rw (take-nil, take-nil) (omega (arith, mul-zero (256 ^ suc m)))
-number-take (suc m) n (x ∷ l) =
-    let e : 256 ^ suc m * number (take n (drop m l)) ≡ 256 * (256 ^ m * number (take n (drop m l))) = rw (pow-suc, mul_comm (256 ^ m) 256, mul_assoc) in
-    rw (suc-add, number-take m n l) (omega (arith, e))
+more n at m l p h = rw (p, next l at h)
 
--- a field of its two halves
-pub halves : (m n at : ℕ) (l : List ℕ) {a b : ℕ} → a ≡ field at m l → b ≡ field (at + m) n l → a + 256 ^ m * b ≡ field at (m + n) l
-halves m n at l p q = sym (number-take m n (drop at l) ∙ rw (drop-drop, p, q))
+none : (at : ℕ) (l : List ℕ) → field at 0 l ≡ 0
+unfolding number
+none at l = refl
+
+-- what the library's `from_le_bytes` makes of them
+module _ (at : ℕ) (l : List ℕ) where
+  abbrev byte : ℕ → ℕ
+  byte k = get_or l (at + k) 0
+
+  pub two : at + 2 ≤ length l → from_le_bytes w16 (get_or l at 0 ∷ byte 1 ∷ []) ≡ field at 2 l
+  two h = omega (arith, more 1 at (at + 1) l refl (omega arith), more 0 (at + 1) (at + 2) l (omega arith) (omega arith), none (at + 2) l)
+
+  back : (n k : ℕ) → at + k < length l → field (at + k) (suc n) l ≡ byte k + 256 * field (at + suc k) n l
+  back n k h = more n (at + k) (at + suc k) l (omega arith) h
+
+  pub four : at + 4 ≤ length l → from_le_bytes w32 (get_or l at 0 ∷ byte 1 ∷ byte 2 ∷ byte 3 ∷ []) ≡ field at 4 l
+  four h = omega (arith, more 3 at (at + 1) l refl (omega arith), back 2 1 (omega arith), back 1 2 (omega arith), back 0 3 (omega arith), none (at + 4) l)
+
+  pub eight : at + 8 ≤ length l → from_le_bytes w64 (get_or l at 0 ∷ byte 1 ∷ byte 2 ∷ byte 3 ∷ byte 4 ∷ byte 5 ∷ byte 6 ∷ byte 7 ∷ []) ≡ field at 8 l
+  eight h =
+      omega (arith, more 7 at (at + 1) l refl (omega arith), back 6 1 (omega arith), back 5 2 (omega arith), back 4 3 (omega arith), back 3 4 (omega arith), back 2 5 (omega arith), back 1 6 (omega arith), back 0 7 (omega arith), none (at + 8) l)
 
 pub one_byte : (at : ℕ) (l : List ℕ) → get_or l at 0 ≡ field at 1 l
 unfolding number

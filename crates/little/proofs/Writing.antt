@@ -1,21 +1,19 @@
--- A number written byte by byte: what is left to append. Assumes nothing.
-use mathlib.Core.List.{List, [], ◌∷◌}
-use mathlib.Core.Path.{◌≡◌}
-use Prim.Native.Nat.{ℕ, suc, ◌+◌, ◌-◌, ◌/◌, ◌%◌, ◌≤◌, ◌<◌}
-use native.Mathlib.Nat.{sub-zero}
-use native.Mathlib.Omega.{arith}
-use Rattle.lent.specs.Fill.{Filled}
-use Rattle.lent.proofs.Laws.{Left, all, step, done}
+-- A number written byte by byte: what is left to write. Assumes nothing.
+use Rattle.std.proofs.Common.{◌≡◌, List, [], ◌∷◌, ℕ, suc, ◌+◌, ◌-◌, ◌/◌, ◌%◌, ◌≤◌, ◌<◌, arith}
+use Rattle.std.proofs.Math.Nat.{sub-zero}
+use Rattle.lent.specs.declared.Writer.{Writer}
+use Rattle.lent.specs.Writer.{Writes}
+use Rattle.lent.proofs.Writing.{Due, all, step, done}
 use Rattle.little.specs.Little.{little}
 
-pub little-none : (d : List ℕ) (at size x : ℕ) → Left d at (little size x) d at (little (size - 0) x)
-little-none d at size x = rw sub-zero all
+pub little-none : (v : Writer) (size x : ℕ) → Due (little size x) v (little (size - 0) x) v
+little-none v size x = rw sub-zero all
 
-module _ {d₀ d : List ℕ} {at₀ at : ℕ} {s₀ : List ℕ} (size i x : ℕ) (p : Left d₀ at₀ s₀ d at (little (size - i) x)) where
-  pub little_step : {e : List ℕ} {m : ℕ} → i < size → Filled d at (x % 256 ∷ []) e m → Left d₀ at₀ s₀ e m (little (size - (i + 1)) (x / 256))
+module _ {u v : Writer} {s₀ : List ℕ} (size i x : ℕ) (p : Due s₀ u (little (size - i) x) v) where
+  pub little_step : {w : Writer} → i < size → Writes (x % 256 ∷ []) v w → Due s₀ u (little (size - (i + 1)) (x / 256)) w
   unfolding little
   little_step h q = let n : size - i ≡ suc (size - (i + 1)) = omega arith in step (rw n) p q
 
-  pub little-end : size ≤ i → Filled d₀ at₀ s₀ d at
+  pub little-end : size ≤ i → Writes s₀ u v
   unfolding little
   little-end h = let n : size - i ≡ 0 = omega arith in done (rw n) p

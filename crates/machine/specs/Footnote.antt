@@ -1,13 +1,11 @@
 -- Footnotes (RULES R9.15): a body kept, a call counted and written, the section at the end. Assumes nothing.
-use Rattle.std.specs.Prelude.{Bool, true, false, ◌&&◌, List, [], ◌∷◌, ◌++◌, ℕ, zero, suc, ◌-◌, ltb, length, take, drop, if◌then◌else◌}
+use Rattle.std.specs.Prelude.{Bool, true, false, ◌&&◌, List, [], ◌∷◌, ◌++◌, ℕ, zero, suc, ◌-◌, ltb, length, take, drop, if◌then◌else◌, Some, None}
 use Rattle.std.proofs.Math.Option.{Option, none, some}
 use Rattle.std.proofs.Math.ListN.{get_elem?}
 use Rattle.lent.specs.Bytes.{bytes, same, mapped, lower}
 use Rattle.sanitize_uri.specs.Url.{sanitize_of}
-use Rattle.normalize_identifier.specs.declared.Found.{Found}
-use Rattle.normalize_identifier.specs.declared.Found.TheVariants.{At, Nothing}
 use Rattle.normalize_identifier.specs.Identity.{identity_of}
-use Rattle.normalize_identifier.specs.Search.{first_same}
+use Rattle.normalize_identifier.specs.Search.{Found, first_same}
 use Rattle.machine.specs.Outcome.{Outcome, stop, go, ◌>>=◌, need}
 use Rattle.machine.specs.State.{State, Span, Footnote, Call}
 use Rattle.machine.specs.Set.{set_media, set_labels, add_footnote, set_calls}
@@ -40,8 +38,8 @@ call_labels [] = []
 call_labels (c ∷ cs) = c.label ∷ call_labels cs
 
 abbrev pub at_or : ℕ → Found → ℕ
-at_or n (At k) = k
-at_or n Nothing = n
+at_or n (Some k) = k
+at_or n None = n
 
 -- see if this has been called before: the index of that call, or the one behind the last
 abbrev pub call_index : List ℕ → List Call → ℕ

@@ -1,11 +1,9 @@
 -- Links, images and definitions: what is known of the newest, where it leads, what is written of it. Assumes nothing.
-use Rattle.std.specs.Prelude.{Bool, true, false, ◌||◌, List, [], ◌∷◌, ◌++◌, ℕ, if◌then◌else◌}
+use Rattle.std.specs.Prelude.{Bool, true, false, ◌||◌, List, [], ◌∷◌, ◌++◌, ℕ, if◌then◌else◌, Some, None}
 use Rattle.std.proofs.Math.Option.{Option, none, some}
 use Rattle.std.proofs.Math.ListN.{get_elem?}
 use Rattle.lent.specs.Bytes.{bytes}
-use Rattle.normalize_identifier.specs.declared.Found.{Found}
-use Rattle.normalize_identifier.specs.declared.Found.TheVariants.{At, Nothing}
-use Rattle.normalize_identifier.specs.Search.{first_same}
+use Rattle.normalize_identifier.specs.Search.{Found, first_same}
 use Rattle.machine.specs.declared.Options.{Options}
 use Rattle.machine.specs.Outcome.{Outcome, stop, go, ◌>>=◌, need}
 use Rattle.machine.specs.State.{State, Span, Destination, no_destination, own, defined, Media, Definition}
@@ -65,8 +63,8 @@ label_of t none (some p) = str_of t.text p >>= λ b. go (some b)
 label_of t none none = go none
 
 abbrev pub defined_at : Found → Outcome Destination
-defined_at (At k) = go (defined k)
-defined_at Nothing = stop
+defined_at (Some k) = go (defined k)
+defined_at None = stop
 
 -- RULES R9.9: its own, that of the first definition of its label, or none
 abbrev pub destination_of : List Definition → Destination → Option (List ℕ) → Outcome Destination

@@ -1,10 +1,8 @@
 -- The footnote section, RULES R9.16 (generate_footnote_section, generate_footnote_item). Assumes nothing.
-use Rattle.std.specs.Prelude.{Bool, true, false, ◌&&◌, List, [], ◌∷◌, ◌++◌, ℕ, zero, suc, ◌-◌, ltb, take, drop, if◌then◌else◌}
+use Rattle.std.specs.Prelude.{Bool, true, false, ◌&&◌, List, [], ◌∷◌, ◌++◌, ℕ, zero, suc, ◌-◌, ltb, take, drop, if◌then◌else◌, Some, None}
 use Rattle.std.proofs.Math.ListN.{get_elem?}
 use Rattle.lent.specs.Bytes.{bytes, same}
-use Rattle.normalize_identifier.specs.declared.Found.{Found}
-use Rattle.normalize_identifier.specs.declared.Found.TheVariants.{At, Nothing}
-use Rattle.normalize_identifier.specs.Search.{first_same}
+use Rattle.normalize_identifier.specs.Search.{Found, first_same}
 use Rattle.machine.specs.Outcome.{Outcome, stop, go, ◌>>=◌, need}
 use Rattle.machine.specs.State.{State, Footnote, Call}
 use Rattle.machine.specs.Buffers.{◌▹◌, push, write, is_eol, end_line, end_line_if_needed}
@@ -19,8 +17,8 @@ footnote_labels [] = []
 footnote_labels (f ∷ fs) = f.label ∷ footnote_labels fs
 
 abbrev pub footnote_at : List Footnote → Found → Outcome Footnote
-footnote_at fs (At k) = need (get_elem? fs k)
-footnote_at fs Nothing = stop
+footnote_at fs (Some k) = need (get_elem? fs k)
+footnote_at fs None = stop
 
 -- RULES R6.4: of those with one identity the one that ended first
 abbrev pub body_of : List ℕ → List Footnote → Outcome (List ℕ)

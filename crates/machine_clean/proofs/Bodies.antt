@@ -1,5 +1,5 @@
 -- A footnote's body: which one, where it is cut, and that a UTF-8 body goes on. Assumes nothing.
-use Rattle.std.specs.Prelude.{if◌then◌else◌}
+use Rattle.std.specs.Prelude.{if◌then◌else◌, Some, None}
 use mathlib.Core.Path.{◌≡◌, refl}
 use mathlib.Core.Bool.{Bool, true, false}
 use mathlib.Core.List.{List, [], ◌∷◌, ◌++◌}
@@ -10,10 +10,8 @@ use lib.ListN.{length, take, drop, get_or, get_elem?}
 use Rattle.lent.specs.Bytes.{bytes, same}
 use Rattle.lent.proofs.Laws.{and_right}
 use Rattle.utf8.proofs.Laws as Utf8
-use Rattle.normalize_identifier.specs.declared.Found.{Found}
-use Rattle.normalize_identifier.specs.declared.Found.TheVariants.{At, Nothing}
 use Rattle.normalize_identifier.specs.Identity.{identity_of}
-use Rattle.normalize_identifier.specs.Search.{first_from, first_same}
+use Rattle.normalize_identifier.specs.Search.{Found, first_from, first_same}
 use Rattle.lent.proofs.Same.{same-iff}
 use Rattle.machine.specs.Outcome.{go, ◌>>=◌, need}
 use Rattle.machine.specs.State.{State, Footnote, Call}
@@ -34,12 +32,12 @@ sure-at (more p q) zero h = goes p
 sure-at (more p q) (suc k) h = sure-at q k (omega arith)
 
 -- it is one of them
-found_in : (k j : ℕ) (fs : List Footnote) (label : List ℕ) → first_from k (footnote_labels fs) label ≡ At j → (k ≤ j) × (j < k + length fs)
+found_in : (k j : ℕ) (fs : List Footnote) (label : List ℕ) → first_from k (footnote_labels fs) label ≡ Some j → (k ≤ j) × (j < k + length fs)
 unfolding first_from
 found_in k j [] label e = let z : ◌≡◌ {A = ℕ} 0 1 = cc in absurd (omega arith)
 found_in k j (f ∷ fs) label e = on (same (identity_of f.label) (identity_of label)) e (found_in (k + 1) j fs label)
   where
-    on : (t : Bool) → (if t then At k else first_from (k + 1) (footnote_labels fs) label) ≡ At j → (first_from (k + 1) (footnote_labels fs) label ≡ At j → (k + 1 ≤ j) × (j < k + 1 + length fs))
+    on : (t : Bool) → (if t then Some k else first_from (k + 1) (footnote_labels fs) label) ≡ Some j → (first_from (k + 1) (footnote_labels fs) label ≡ Some j → (k + 1 ≤ j) × (j < k + 1 + length fs))
         → (k ≤ j) × (j < k + length (f ∷ fs))
     on true p h = let q : k ≡ j = cc in (omega arith, omega arith)
     on false p h = let q = h p in (omega arith, omega arith)
@@ -49,15 +47,15 @@ unfolding first_same
 sure-body {fs} {c} a n = chain _ (on (first_same (footnote_labels fs) c.label) refl) (λ f p. goes p.body)
   where
     on : (x : Found) → first_same (footnote_labels fs) c.label ≡ x → Sure CleanFootnote (footnote_at fs x)
-    on (At j) e = let h = found_in 0 j fs c.label e in sure-at a j (omega arith)
-    on Nothing e = absurd (n.found e)
+    on (Some j) e = let h = found_in 0 j fs c.label e in sure-at a j (omega arith)
+    on None e = absurd (n.found e)
 
 pub safe-body : {fs : List Footnote} (c : Call) → All CleanFootnote fs → Safe Valid (body_of c.label fs)
 safe-body {fs} c a = chain _ (on (first_same (footnote_labels fs) c.label)) (λ f p. goes p.body)
   where
     on : (x : Found) → Safe CleanFootnote (footnote_at fs x)
-    on (At j) = at a j
-    on Nothing = stops
+    on (Some j) = at a j
+    on None = stops
 
 -- ---- where it is cut
 

@@ -1,9 +1,5 @@
 -- What is encoded, and what a character reference stands for. Assumes nothing.
-use mathlib.Core.Path.{◌≡◌, refl}
-use mathlib.Core.List.{List, [], ◌∷◌}
-use Prim.Native.Nat.{ℕ, ◌≤◌, ◌<◌}
-use native.Mathlib.Omega.{arith}
-use lib.Dec.{T}
+use Rattle.std.proofs.Common.{Option, Some, None, ◌≡◌, refl, List, [], ◌∷◌, ℕ, ◌≤◌, ◌<◌, arith, T}
 use Rattle.lent.proofs.Computed.{computed}
 use Rattle.utf8.specs.Utf8.{is_utf8, char_of, after_first}
 use Rattle.utf8.proofs.Laws.{each-valid}
@@ -15,8 +11,6 @@ use Rattle.encode_byte.proofs.Laws.{kept}
 use Rattle.encode.specs.Encode.{encode_of}
 use Rattle.character_reference.specs.declared.Marker.{Marker}
 use Rattle.character_reference.specs.declared.Names.{Names}
-use Rattle.character_reference.specs.declared.Value.{Value}
-use Rattle.character_reference.specs.declared.Value.TheVariants.{Code, Broken}
 use Rattle.character_reference.specs.Reference.{value_of, stands_for, reference_for}
 use Rattle.character_reference.proofs.Laws.{is-scalar}
 use Rattle.machine_clean.specs.Clean.{Valid, Maybe, missing, there}
@@ -44,6 +38,6 @@ pub referred : (names : Names) (m : Marker) (b : List ℕ) → Maybe (reference_
 unfolding reference_for
 referred names m b = on (value_of names m b) refl
   where
-    on : (v : Value) → v ≡ value_of names m b → Maybe (stands_for v)
-    on (Code c) e = there (valid (char_of c) (char-valid c (rw (is-scalar names m b (Code c) c e refl) tt)))
-    on Broken e = missing
+    on : (v : Option ℕ) → v ≡ value_of names m b → Maybe (stands_for v)
+    on (Some c) e = there (valid (char_of c) (char-valid c (rw (is-scalar names m b (Some c) c e refl) tt)))
+    on None e = missing

@@ -1,12 +1,11 @@
 -- Links, images and definitions: what is held of them, where they lead, what is written and kept. Assumes nothing.
+use Rattle.std.proofs.Common.{Some, None}
 use mathlib.Core.Path.{refl}
 use mathlib.Core.Bool.{Bool}
 use mathlib.Core.List.{List, [], ◌∷◌, ◌++◌}
 use mathlib.Core.Option.{Option, none, some}
 use Prim.Native.Nat.{ℕ}
-use Rattle.normalize_identifier.specs.declared.Found.{Found}
-use Rattle.normalize_identifier.specs.declared.Found.TheVariants.{At, Nothing}
-use Rattle.normalize_identifier.specs.Search.{first_same}
+use Rattle.normalize_identifier.specs.Search.{Found, first_same}
 use Rattle.machine.specs.declared.Options.{Options}
 use Rattle.machine.specs.Outcome.{go, need}
 use Rattle.machine.specs.State.{State, Span, Destination, Media, Definition}
@@ -62,8 +61,8 @@ left {s} c = chain (λ (m, ms). go (set_flag alt (any_image ms) s)) (newest c) (
 -- ---- where it leads
 
 found-clean : (f : Found) → Safe CleanDestination (defined_at f)
-found-clean (At k) = goes theirs
-found-clean Nothing = stops
+found-clean (Some k) = goes theirs
+found-clean None = stops
 
 destination-clean : (ds : List Definition) {d : Destination} → CleanDestination d → (b : Option (List ℕ)) → Safe CleanDestination (destination_of ds d b)
 destination-clean ds nowhere (some b) = found-clean (first_same (definition_labels ds) b)

@@ -1,6 +1,5 @@
 -- What the footnote section asks for, and what it does: it only writes. Assumes nothing.
-use Rattle.std.specs.Prelude.{◌≡◌, List, ℕ}
-use Rattle.normalize_identifier.specs.declared.Found.TheVariants.{Nothing}
+use Rattle.std.specs.Prelude.{◌≡◌, List, ℕ, None}
 use Rattle.normalize_identifier.specs.Search.{first_same}
 use Rattle.machine.specs.State.{State, Footnote, Call}
 use Rattle.machine.specs.Buffers.{push}
@@ -15,7 +14,7 @@ pub record Appends (s u : State) : Type 0 where
 
 -- a call's label is that of a footnote
 pub record Noted (fs : List Footnote) (c : Call) : Type 0 where
-  pub found : first_same (footnote_labels fs) c.label ≡ Nothing → ⊥
+  pub found : first_same (footnote_labels fs) c.label ≡ None → ⊥
 
 -- every call's is
 abbrev pub Called : State → Type 0

@@ -1,4 +1,5 @@
 -- The frame lemma, and that on a list which the checker passes there is a run for it. Assumes nothing.
+use Rattle.std.proofs.Common.{Ok}
 use mathlib.Core.Path.{◌≡◌, refl, sym, ◌∙◌}
 use mathlib.Core.Bool.{Bool, true, false}
 use mathlib.Core.List.{List, [], ◌∷◌, ◌++◌}
@@ -11,7 +12,6 @@ use Rattle.event.specs.Event.{events_of}
 use Rattle.check_nesting.specs.Grammar.{holds}
 use Rattle.check_nesting.specs.Nests.{Takes}
 use Rattle.check_rules.specs.Elements.{Forest, element, list_of, Pair}
-use Rattle.check_list.specs.declared.Checked.TheVariants.{Yes}
 use Rattle.check_list.specs.Checked.{check_of}
 use Rattle.machine.specs.declared.Options.{Options}
 use Rattle.machine.specs.declared.Ending.{Ending}
@@ -99,7 +99,7 @@ unfolding through handle
 run-through (ends s) = refl
 run-through (turns t {s = s} {u} w g) = rw (through, within-exec (command_of t) t s u w) (run-through g)
 
-pub runs : (text events : List ℕ) (o : Options) → check_of text events ≡ Yes
+pub runs : (text events : List ℕ) (o : Options) → check_of text events ≡ Ok tt
     → (ending : Ending) × (ending_of o.ending text (events_of events) ≡ go ending) × (v : State) × (through (pass_from true text o false 0 [] (events_of events) ++ pass_from false text o false 0 [] (events_of events)) (start (fixed_of o ending)) ≡ go v)
 unfolding turns_of
 runs text events o passes = let g = Never.goes text events o passes in (g.0, g.1, g.2, run-through g.3)

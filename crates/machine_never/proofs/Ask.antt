@@ -1,4 +1,5 @@
 -- What a link, image or call seeks is found: rule 7, by the slices of the open media. Assumes nothing.
+use Rattle.std.proofs.Common.{Some, None}
 use mathlib.Core.Path.{◌≡◌, refl, sym, ap, ◌∙◌}
 use mathlib.Core.Bool.{Bool, true, false}
 use mathlib.Core.List.{List, [], ◌∷◌}
@@ -10,13 +11,9 @@ use lib.ListN.{length, get_or}
 use Rattle.lent.specs.Bytes.{listed, one_of}
 use Rattle.event.specs.declared.Event.{Event}
 use Rattle.event.specs.Event.{named, events_of}
-use Rattle.normalize_identifier.specs.declared.Found.{Found}
-use Rattle.normalize_identifier.specs.declared.Found.TheVariants.{At, Nothing as Missing}
 use Rattle.normalize_identifier.specs.Identity.{identity_of}
-use Rattle.normalize_identifier.specs.Search.{first_same}
-use Rattle.check_labels.specs.declared.Part.{Part}
-use Rattle.check_labels.specs.declared.Part.TheVariants.{Slice, Nothing}
-use Rattle.check_labels.specs.Labels.{slice, identities, is_defined, unless, or_else}
+use Rattle.normalize_identifier.specs.Search.{Found, first_same}
+use Rattle.check_labels.specs.Labels.{Part, slice, identities, is_defined, unless, or_else}
 use Rattle.check_nesting.specs.Grammar.{name_of, holds, name_count, second_names}
 use Rattle.check_nesting.specs.Nests.{Takes}
 use Rattle.check_rules.specs.Elements.{Forest, nil, element, list_of, Pair, child_of, grandchild_of}
@@ -76,8 +73,8 @@ destination-there : (ds : List Definition) (d : Destination) (b : List ℕ) → 
 destination-there ds no_destination b h = at (first_same (definition_labels ds) b) refl
   where
     at : (f : Found) → first_same (definition_labels ds) b ≡ f → Goes (defined_at f)
-    at (At k) e = (defined k, refl)
-    at Missing e = absurd (has-found (definition_labels ds) b (h refl) e)
+    at (Some k) e = (defined k, refl)
+    at None e = absurd (has-found (definition_labels ds) b (h refl) e)
 destination-there ds (own d) b h = (own d, refl)
 destination-there ds (defined k) b h = (defined k, refl)
 
@@ -91,7 +88,7 @@ module _ (t : Turn) (ds : List Definition) (d : Destination) (ids : List (List �
   abbrev Seeks : Option Span → Option Span → Type 0
   Seeks r l = (sought : Option (List ℕ)) × (label_of t r l ≡ go sought) × Goes (destination_of ds d sought)
 
-  found : (from to : ℕ) → Reads t.text (record { from = from; to = to }) → (is_led d ≡ false → is_defined t.text ids (Slice from to) ≡ true)
+  found : (from to : ℕ) → Reads t.text (record { from = from; to = to }) → (is_led d ≡ false → is_defined t.text ids (Some (from, to)) ≡ true)
       → (sought : Option (List ℕ)) × ((str_of t.text (record { from = from; to = to }) >>= λ b. go (some b)) ≡ go sought) × Goes (destination_of ds d sought)
   unfolding is_defined
   found from to r h = (
@@ -103,17 +100,17 @@ module _ (t : Turn) (ds : List Definition) (d : Destination) (ids : List (List �
   seeks : (resource reference label : Part) → is_led d ≡ is_part resource → is_defined t.text ids (unless resource (or_else reference label)) ≡ true
       → ((p : Span) → or_that label none ≡ some p → Reads t.text p) → ((p : Span) → or_that reference none ≡ some p → Reads t.text p)
       → Seeks (or_that reference none) (or_that label none)
-  seeks resource (Slice from to) label e h l r = found from to (r (record { from = from; to = to }) refl) (λ q. own-part resource e q h)
+  seeks resource (Some (from, to)) label e h l r = found from to (r (record { from = from; to = to }) refl) (λ q. own-part resource e q h)
     where
-      own-part : (x : Part) → is_led d ≡ is_part x → is_led d ≡ false → is_defined t.text ids (unless x (Slice from to)) ≡ true → is_defined t.text ids (Slice from to) ≡ true
-      own-part (Slice i j) e q h = clash e q
-      own-part Nothing e q h = h
-  seeks resource Nothing (Slice from to) e h l r = found from to (l (record { from = from; to = to }) refl) (λ q. own-part resource e q h)
+      own-part : (x : Part) → is_led d ≡ is_part x → is_led d ≡ false → is_defined t.text ids (unless x (Some (from, to))) ≡ true → is_defined t.text ids (Some (from, to)) ≡ true
+      own-part (Some (i, j)) e q h = clash e q
+      own-part None e q h = h
+  seeks resource None (Some (from, to)) e h l r = found from to (l (record { from = from; to = to }) refl) (λ q. own-part resource e q h)
     where
-      own-part : (x : Part) → is_led d ≡ is_part x → is_led d ≡ false → is_defined t.text ids (unless x (Slice from to)) ≡ true → is_defined t.text ids (Slice from to) ≡ true
-      own-part (Slice i j) e q h = clash e q
-      own-part Nothing e q h = h
-  seeks resource Nothing Nothing e h l r = (none, refl, destination-none ds d)
+      own-part : (x : Part) → is_led d ≡ is_part x → is_led d ≡ false → is_defined t.text ids (unless x (Some (from, to))) ≡ true → is_defined t.text ids (Some (from, to)) ≡ true
+      own-part (Some (i, j)) e q h = clash e q
+      own-part None e q h = h
+  seeks resource None None e h l r = (none, refl, destination-none ds d)
 
 -- ---- at the exit of an element
 
@@ -172,5 +169,5 @@ module _ (text events : List ℕ) (meets : Meets text events) (p : ℕ) (before 
       at (grandchild_of 48 f) d i
     where
       at : (x : Part) → is_defined text (identities 65 text (events_of events)) x ≡ true → or_that x none ≡ some q → listed (identities 65 text (events_of events)) (identity_of (text_of text q)) ≡ true
-      at (Slice from to) d i = let j : record { from = from; to = to } ≡ q = cc in rw (sym j) d
-      at Nothing d i = let u : ◌≡◌ {A = ℕ} 0 1 = cc in absurd (omega arith)
+      at (Some (from, to)) d i = let j : record { from = from; to = to } ≡ q = cc in rw (sym j) d
+      at None d i = let u : ◌≡◌ {A = ℕ} 0 1 = cc in absurd (omega arith)

@@ -1,4 +1,5 @@
 -- No more footnote labels than footnotes, and as many exits as enters. Assumes nothing.
+use Rattle.std.proofs.Common.{Some, None}
 use Rattle.std.specs.Prelude.{if◌then◌else◌}
 use mathlib.Core.Path.{◌≡◌, refl, sym, ap, ◌∙◌}
 use mathlib.Core.Bool.{Bool, true, false, ◌&&◌, ◌||◌}
@@ -11,8 +12,7 @@ use lib.ListN.{length}
 use Rattle.lent.specs.Bytes.{one_of}
 use Rattle.event.specs.declared.Event.{Event}
 use Rattle.event.specs.Event.{is_enter}
-use Rattle.check_labels.specs.declared.Part.TheVariants.{Slice, Nothing}
-use Rattle.check_labels.specs.Labels.{slice, label_of, identities}
+use Rattle.check_labels.specs.Labels.{Part, slice, label_of, identities}
 use Rattle.normalize_identifier.specs.Identity.{identity_of}
 use Rattle.check_nesting.specs.Grammar.{Item, one, opt, any, chain, name_of, holds, rules, whole, kind_count}
 use Rattle.check_nesting.specs.Nests.{Takes, nothing, one-taken, opt_none, opt-taken, any_none, any-taken, chain-none, chain-taken}
@@ -80,7 +80,7 @@ identities-long n text [] = refl
 identities-long n text (e ∷ es) = at (is_enter e) (eqb e.name n) (identities-long n text es)
   where
     at : (x y : Bool) → length (identities n text es) ≡ exits n es
-        → length {A = List ℕ} (elim (if x then Nothing else (if y then Slice e.from.0 e.to.0 else Nothing)) [ Slice from to ↦ identity_of (slice text from to) ∷ identities n text es | Nothing ↦ identities n text es ]) ≡ (if x then exits n es else (if y then suc (exits n es) else exits n es))
+        → length {A = List ℕ} (elim (if◌then◌else◌ {A = Part} x None (if y then Some (e.from.0, e.to.0) else None)) [ Some (from, to) ↦ identity_of (slice text from to) ∷ identities n text es | None ↦ identities n text es ]) ≡ (if x then exits n es else (if y then suc (exits n es) else exits n es))
     at true y h = h
     at false true h = ap suc h
     at false false h = h

@@ -1,4 +1,5 @@
 -- A definition's own label is the only one that it holds. Assumes nothing.
+use Rattle.std.proofs.Common.{Some, None}
 use Rattle.std.specs.Prelude.{if◌then◌else◌}
 use mathlib.Core.Path.{◌≡◌, refl}
 use mathlib.Core.Bool.{Bool, true, false, not, ◌&&◌, ◌||◌}
@@ -10,9 +11,7 @@ use lib.Dec.{T, eqb, leb}
 use borrow.Author.Tests.{ne_eqb, leb-true}
 use Rattle.lent.specs.Bytes.{one_of}
 use Rattle.normalize_identifier.specs.Identity.{identity_of}
-use Rattle.check_labels.specs.declared.Part.{Part}
-use Rattle.check_labels.specs.declared.Part.TheVariants.{Slice, Nothing}
-use Rattle.check_labels.specs.Labels.{label_of}
+use Rattle.check_labels.specs.Labels.{Part, label_of}
 use Rattle.check_nesting.specs.Grammar.{name_of, holds, rules, kind_count}
 use Rattle.check_nesting.specs.Nests.{Takes}
 use Rattle.check_rules.specs.Elements.{Forest, nil, element, Paired}
@@ -103,6 +102,6 @@ pub definition-known : (text : List ℕ) (f : Forest) (x : Top) (ys : List Top) 
 unfolding holds rules
 definition-known text f x ys ks ls r e h k t own = from-tops text 54 (omega arith) f ls r (rw e (here (label_of 54 x.exit) (own-part 54 x.exit), plain-inside text x 54 ls h tt, others-known text ks ys ls k t))
   where
-    here : (y : Part) → (y ≡ Nothing) ⊎ (y ≡ Slice x.exit.from.0 x.exit.to.0) → HasPart text y ls
+    here : (y : Part) → (y ≡ None) ⊎ (y ≡ Some (x.exit.from.0, x.exit.to.0)) → HasPart text y ls
     here y (inl q) = rw q tt
     here y (inr q) = rw q own

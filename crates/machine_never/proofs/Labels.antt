@@ -1,5 +1,5 @@
 -- Laws of labels that are kept, along lists and forests. Assumes nothing.
-use Rattle.std.specs.Prelude.{if◌then◌else◌}
+use Rattle.std.specs.Prelude.{if◌then◌else◌, Some, None}
 use mathlib.Core.Path.{◌≡◌, refl}
 use mathlib.Core.Bool.{Bool, true, false, ◌||◌}
 use mathlib.Core.Logic.{◌⊎◌, inl, inr}
@@ -11,13 +11,10 @@ use borrow.Author.Tests.{ne_eqb}
 use Rattle.lent.specs.Bytes.{same, listed}
 use Rattle.event.specs.declared.Event.{Event}
 use Rattle.event.specs.Event.{is_enter}
-use Rattle.normalize_identifier.specs.declared.Found.TheVariants.{At, Nothing as Missing}
 use Rattle.normalize_identifier.specs.Identity.{identity_of}
 use Rattle.normalize_identifier.specs.Search.{first_from, first_same}
 use Rattle.lent.proofs.Same.{same-iff}
-use Rattle.check_labels.specs.declared.Part.{Part}
-use Rattle.check_labels.specs.declared.Part.TheVariants.{Slice, Nothing}
-use Rattle.check_labels.specs.Labels.{slice, label_of, identities}
+use Rattle.check_labels.specs.Labels.{Part, slice, label_of, identities}
 use Rattle.check_nesting.specs.Grammar.{name_of, holds}
 use Rattle.check_rules.specs.Elements.{Forest, nil, element, Paired}
 use Rattle.check_rules.proofs.Before.{clash}
@@ -44,25 +41,25 @@ has_right [] ms id h = h
 has_right (l ∷ ls) ms id h = inr (has_right ls ms id h)
 
 part-more : (text : List ℕ) (x : Part) (ls ms : List (List ℕ)) → Sub ls ms → HasPart text x ls → HasPart text x ms
-part-more text (Slice from to) ls ms s h = s (identity_of (slice text from to)) h
-part-more text Nothing ls ms s h = tt
+part-more text (Some (from, to)) ls ms s h = s (identity_of (slice text from to)) h
+part-more text None ls ms s h = tt
 
 pub known_more : (text : List ℕ) (n : ℕ) (es : List Event) (ls ms : List (List ℕ)) → Sub ls ms → Known text n es ls → Known text n es ms
 known_more text n [] ls ms s h = tt
 known_more text n (e ∷ es) ls ms s h = (part-more text (label_of n e) ls ms s h.0, known_more text n es ls ms s h.1)
 
 -- one is found by its identity
-found_from : (k : ℕ) (ls : List (List ℕ)) (b : List ℕ) → Has (identity_of b) ls → first_from k ls b ≡ Missing → ⊥
+found_from : (k : ℕ) (ls : List (List ℕ)) (b : List ℕ) → Has (identity_of b) ls → first_from k ls b ≡ None → ⊥
 unfolding first_from
 found_from k [] b h e = h
 found_from k (l ∷ ls) b h e = at (same (identity_of l) (identity_of b)) refl h (λ h q. found_from (k + 1) ls b h q) e
   where
-    at : (x : Bool) → same (identity_of l) (identity_of b) ≡ x → (identity_of l ≡ identity_of b) ⊎ Has (identity_of b) ls → (Has (identity_of b) ls → first_from (k + 1) ls b ≡ Missing → ⊥) → (if x then At k else first_from (k + 1) ls b) ≡ Missing → ⊥
+    at : (x : Bool) → same (identity_of l) (identity_of b) ≡ x → (identity_of l ≡ identity_of b) ⊎ Has (identity_of b) ls → (Has (identity_of b) ls → first_from (k + 1) ls b ≡ None → ⊥) → (if x then Some k else first_from (k + 1) ls b) ≡ None → ⊥
     at true s h more q = let z : ◌≡◌ {A = ℕ} 0 1 = cc in omega arith
     at false s (inl i) more q = clash ((same-iff (identity_of l) (identity_of b)).1 i) s
     at false s (inr i) more q = more i q
 
-pub has-found : (ls : List (List ℕ)) (b : List ℕ) → Has (identity_of b) ls → first_same ls b ≡ Missing → ⊥
+pub has-found : (ls : List (List ℕ)) (b : List ℕ) → Has (identity_of b) ls → first_same ls b ≡ None → ⊥
 unfolding first_same
 has-found ls b h e = found_from 0 ls b h e
 
@@ -76,9 +73,9 @@ listed-one text n e es ls id h l = at (label_of n e) h l
     word from to true s h l = let i = (same-iff id (identity_of (slice text from to))).0 s in inl (rw i h)
     word from to false s h l = inr l
 
-    at : (x : Part) → HasPart text x ls → listed (elim x [ Slice from to ↦ identity_of (slice text from to) ∷ identities n text es | Nothing ↦ identities n text es ]) id ≡ true → Has id ls ⊎ (listed (identities n text es) id ≡ true)
-    at (Slice from to) h l = word from to (same id (identity_of (slice text from to))) refl h l
-    at Nothing h l = inr l
+    at : (x : Part) → HasPart text x ls → listed (elim x [ Some (from, to) ↦ identity_of (slice text from to) ∷ identities n text es | None ↦ identities n text es ]) id ≡ true → Has id ls ⊎ (listed (identities n text es) id ≡ true)
+    at (Some (from, to)) h l = word from to (same id (identity_of (slice text from to))) refl h l
+    at None h l = inr l
 
 pub known-listed : (text : List ℕ) (n : ℕ) (before es : List Event) (ls : List (List ℕ)) (id : List ℕ) → Known text n before ls → listed (identities n text (unwind before es)) id ≡ true → Has id ls ⊎ (listed (identities n text es) id ≡ true)
 known-listed text n [] es ls id h l = inr l
@@ -90,23 +87,23 @@ known-listed text n (e ∷ before) es ls id h l =
 
 -- ---- along forests
 
-pub enter-none : (n : ℕ) (e : Event) → is_enter e ≡ true → label_of n e ≡ Nothing
+pub enter-none : (n : ℕ) (e : Event) → is_enter e ≡ true → label_of n e ≡ None
 unfolding label_of
 enter-none n e h = rw h refl
 
-pub other_none : (n : ℕ) (e : Event) → eqb e.name n ≡ false → label_of n e ≡ Nothing
+pub other_none : (n : ℕ) (e : Event) → eqb e.name n ≡ false → label_of n e ≡ None
 unfolding label_of
 other_none n e h = at (is_enter e)
   where
-    at : (x : Bool) → (if x then Nothing else (if eqb e.name n then Slice e.from.0 e.to.0 else Nothing)) ≡ Nothing
+    at : (x : Bool) → if◌then◌else◌ {A = Part} x None (if eqb e.name n then Some (e.from.0, e.to.0) else None) ≡ None
     at true = refl
     at false = rw h refl
 
-pub own-part : (n : ℕ) (e : Event) → (label_of n e ≡ Nothing) ⊎ (label_of n e ≡ Slice e.from.0 e.to.0)
+pub own-part : (n : ℕ) (e : Event) → (label_of n e ≡ None) ⊎ (label_of n e ≡ Some (e.from.0, e.to.0))
 unfolding label_of
 own-part n e = at (is_enter e) (eqb e.name n)
   where
-    at : (x y : Bool) → ((if x then Nothing else (if y then Slice e.from.0 e.to.0 else Nothing)) ≡ Nothing) ⊎ ((if x then Nothing else (if y then Slice e.from.0 e.to.0 else Nothing)) ≡ Slice e.from.0 e.to.0)
+    at : (x y : Bool) → (if◌then◌else◌ {A = Part} x None (if y then Some (e.from.0, e.to.0) else None) ≡ None) ⊎ (if◌then◌else◌ {A = Part} x None (if y then Some (e.from.0, e.to.0) else None) ≡ Some (e.from.0, e.to.0))
     at true y = inl refl
     at false true = inr refl
     at false false = inl refl

@@ -1,4 +1,5 @@
 -- On a text and events that the checker passes the machine never stops, within the code's tables and to its page. Assumes nothing.
+use Rattle.std.proofs.Common.{Ok}
 use mathlib.Core.Path.{◌≡◌, refl, ap, ◌∙◌}
 use mathlib.Core.Bool.{Bool, true, false}
 use mathlib.Core.List.{List, []}
@@ -8,7 +9,6 @@ use lib.ListN.{length}
 use Rattle.event.specs.Event.{events_of}
 use Rattle.check_rules.specs.Rules.{Meets}
 use Rattle.check_rules.proofs.Meets.{yes-meets}
-use Rattle.check_list.specs.declared.Checked.TheVariants.{Yes}
 use Rattle.check_list.specs.Checked.{check_of}
 use Rattle.machine.specs.declared.Options.{Options}
 use Rattle.machine.specs.declared.Ending.{Ending}
@@ -46,7 +46,7 @@ finish-goes n v c k = at (is_empty v.kept.calls)
 
 -- ---- demand 3
 
-module _ (text events : List ℕ) (o : Options) (yes : check_of text events ≡ Yes) where
+module _ (text events : List ℕ) (o : Options) (yes : check_of text events ≡ Ok tt) where
   rules-met : Meets text events
   rules-met = (yes-meets text events).0 yes
 

@@ -1,4 +1,5 @@
 -- What the second pass keeps beside: definitions that are sought, footnotes that are called. Assumes nothing.
+use Rattle.std.proofs.Common.{Some, None}
 use mathlib.Core.Path.{◌≡◌, refl}
 use mathlib.Core.Bool.{true, false}
 use mathlib.Core.Logic.{◌⊎◌, inl, inr}
@@ -13,9 +14,7 @@ use Rattle.lent.specs.Bytes.{listed}
 use Rattle.event.specs.declared.Event.{Event}
 use Rattle.event.specs.Event.{is_enter}
 use Rattle.normalize_identifier.specs.Identity.{identity_of}
-use Rattle.check_labels.specs.declared.Part.{Part}
-use Rattle.check_labels.specs.declared.Part.TheVariants.{Slice, Nothing}
-use Rattle.check_labels.specs.Labels.{label_of}
+use Rattle.check_labels.specs.Labels.{Part, label_of}
 use Rattle.machine.specs.State.{Span}
 use Rattle.machine.specs.Turn.{span_of}
 use Rattle.machine.specs.Handlers.{rows}
@@ -54,7 +53,7 @@ new_in x ls ms = has_right ls (x ∷ ms) (identity_of x) (inl refl)
 
 module _ (text : List ℕ) (before : List Event) (e : Event) (es : List Event) (v : Values) where
   -- where nothing is done to them
-  same-footed : label_of 65 e ≡ Nothing → exits 63 (e ∷ es) ≡ exits 63 es → T (all_effects unnoting (effects_at e)) → Footed text before (e ∷ es) v → Footed text (e ∷ before) es (do_to text e (effects_at e) v)
+  same-footed : label_of 65 e ≡ None → exits 63 (e ∷ es) ≡ exits 63 es → T (all_effects unnoting (effects_at e)) → Footed text before (e ∷ es) v → Footed text (e ∷ before) es (do_to text e (effects_at e) v)
   same-footed n x t h =
       record {
         known = (rw n tt, rw (noted-kept text e (effects_at e) v t, labels-kept text e (effects_at e) v t) h.known);
@@ -71,7 +70,7 @@ module _ (text : List ℕ) (before : List Event) (e : Event) (es : List Event) (
         room = omega (arith, h.room);
       }
     where
-      part : (y : Part) → (y ≡ Nothing) ⊎ (y ≡ Slice e.from.0 e.to.0) → HasPart text y (v.noted ++ (text_of text (span_of e) ∷ texts text v.labels))
+      part : (y : Part) → (y ≡ None) ⊎ (y ≡ Some (e.from.0, e.to.0)) → HasPart text y (v.noted ++ (text_of text (span_of e) ∷ texts text v.labels))
       part y (inl q) = rw q tt
       part y (inr q) = rw q (new_in (text_of text (span_of e)) v.noted (texts text v.labels))
 
@@ -80,10 +79,10 @@ module _ (text : List ℕ) (before : List Event) (e : Event) (es : List Event) (
   unfolding effects_of rows on_exit_gfm_footnote_definition
   body-footed n x h =
       let y : exits 63 (e ∷ es) ≡ suc (exits 63 es) = rw (x, n) refl in
-      let z : label_of 65 e ≡ Nothing = other_none 65 e (rw n refl) in
+      let z : label_of 65 e ≡ None = other_none 65 e (rw n refl) in
       at v.labels refl y z
     where
-      at : (ps : List Span) → v.labels ≡ ps → exits 63 (e ∷ es) ≡ suc (exits 63 es) → label_of 65 e ≡ Nothing → Footed text (e ∷ before) es (do_to text e (notes ∷ []) v)
+      at : (ps : List Span) → v.labels ≡ ps → exits 63 (e ∷ es) ≡ suc (exits 63 es) → label_of 65 e ≡ None → Footed text (e ∷ before) es (do_to text e (notes ∷ []) v)
       at [] q y z = record { known = (rw z tt, rw q (rw q at h.known)); room = rw q (omega (arith, h.room)) }
       at (p ∷ ps) q y z =
           let k : Known text 65 before (v.noted ++ (text_of text p ∷ texts text ps)) = rw q at h.known in

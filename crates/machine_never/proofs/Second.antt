@@ -1,4 +1,5 @@
 -- The second pass: every turn's values are right, and what is kept for it stays. Assumes nothing.
+use Rattle.std.proofs.Common.{None}
 use mathlib.Core.Path.{◌≡◌, refl, sym, ap, ◌∙◌}
 use mathlib.Core.Bool.{true, false}
 use mathlib.Core.List.{List, [], ◌∷◌, ◌++◌}
@@ -12,7 +13,6 @@ use Rattle.lent.specs.Bytes.{listed}
 use Rattle.event.specs.declared.Event.{Event}
 use Rattle.event.specs.Event.{is_enter, events_of}
 use Rattle.normalize_identifier.specs.Identity.{identity_of}
-use Rattle.check_labels.specs.declared.Part.TheVariants.{Nothing}
 use Rattle.check_labels.specs.Labels.{label_of, identities}
 use Rattle.check_nesting.specs.Grammar.{name_of, holds, rules}
 use Rattle.check_nesting.specs.Nests.{Takes}
@@ -183,7 +183,7 @@ module _ (text events : List ℕ) (meets : Meets text events) (few : length (ide
     over-kept : (p : ℕ) (before : List Event) (a : Event) (f : Forest) (z : Event) (es : List Event) (s : State) {ks : List ℕ} → a.name ≡ 53 → Pair a z → Takes (holds 53) ks → Kinds ks f → Ready (contract_of 53) s
         → Second p before (a ∷ list_of f (z ∷ es)) s → Second (suc (placed f (suc p))) (z ∷ behind f (a ∷ before)) es s
     over-kept p before a f z es s n r w c b h =
-        let za : label_of 65 z ≡ Nothing = other_none 65 z (rw (r.2, n) refl) in
+        let za : label_of 65 z ≡ None = other_none 65 z (rw (r.2, n) refl) in
         let ka : Known text 65 (a ∷ before) ((values s).noted ++ texts text (values s).labels) = (rw (enter-none 65 a r.0) tt, h.footed.known) in
         let e₁ : exits 63 (a ∷ list_of f (z ∷ es)) ≡ exits 63 (list_of f (z ∷ es)) = rw r.0 refl in
         let e₂ = exits-forest 63 f (z ∷ es) (paired c) in

@@ -1,4 +1,5 @@
 -- What a link, image or call seeks is what its slices name, and a definition's label is its 54's slice. Assumes nothing.
+use Rattle.std.proofs.Common.{Some, None}
 use mathlib.Core.Path.{◌≡◌, refl, ap, ◌∙◌}
 use mathlib.Core.Bool.{Bool, true, false, not}
 use mathlib.Core.Logic.{◌⊎◌, inl, inr}
@@ -7,9 +8,7 @@ use mathlib.Core.Option.{none, some}
 use Prim.Native.Nat.{ℕ}
 use lib.Dec.{T, eqb}
 use Rattle.lent.specs.Bytes.{one_of}
-use Rattle.check_labels.specs.declared.Part.{Part}
-use Rattle.check_labels.specs.declared.Part.TheVariants.{Slice, Nothing}
-use Rattle.check_labels.specs.Labels.{or_else}
+use Rattle.check_labels.specs.Labels.{Part, or_else}
 use Rattle.check_nesting.specs.Grammar.{opt, name_of, holds, rules, call_label}
 use Rattle.check_nesting.specs.Nests.{Takes}
 use Rattle.check_rules.specs.Elements.{Forest, child_of, grandchild_of, sought_in}
@@ -23,19 +22,19 @@ use Rattle.machine.specs.Turn.{span_of}
 use Rattle.machine_never.proofs.Tops.{child-tops, grand-tops, ids-tops, kinds-tops, absent-in, takes_one, takes-opt, takes_none, only, one_of_two}
 use Rattle.machine_never.proofs.Parts.{no-tops, one-top, ran, part-47, part-call, part-49, part-52, part-54, part-55, part-56}
 
-or-nothing : (x : Part) → or_else x Nothing ≡ x
-or-nothing (Slice from to) = refl
-or-nothing Nothing = refl
+or-nothing : (x : Part) → or_else x None ≡ x
+or-nothing (Some (from, to)) = refl
+or-nothing None = refl
 
 is-named : (k n : ℕ) (x : Top) (b : Bool) → IsKind k x → eqb (name_of k) n ≡ b → eqb x.enter.name n ≡ b
 is-named k n x b h e = rw h.named e
 
 -- neither a resource nor a reference holds a label text
-no-48-in-49 : (x : Top) → IsKind 49 x → child_of 48 x.inside ≡ Nothing
+no-48-in-49 : (x : Top) → IsKind 49 x → child_of 48 x.inside ≡ None
 unfolding holds rules
 no-48-in-49 x h = absent-in 48 h.kinds (kinds-taken (λ k. not (eqb (name_of k) 48)) h.takes tt)
 
-no-48-in-52 : (x : Top) → IsKind 52 x → child_of 48 x.inside ≡ Nothing
+no-48-in-52 : (x : Top) → IsKind 52 x → child_of 48 x.inside ≡ None
 unfolding holds rules
 no-48-in-52 x h = absent-in 48 h.kinds (kinds-taken (λ k. not (eqb (name_of k) 48)) h.takes tt)
 
@@ -89,7 +88,7 @@ media-ids f {ks} c w is = ids-tops c (bare ∷ is) ∙ rw (grand-tops 48 f, chil
 
 -- ---- calls
 
-call-tops : (ks : List ℕ) (xs : List Top) → Takes (holds 62) ks → AreKinds ks xs → (is : List Ids) → (ids_tops xs (bare ∷ is) ≡ known (grand_top 48 xs) Nothing Nothing ∷ is) × (child_top 52 xs ≡ Nothing) × (child_top 49 xs ≡ Nothing)
+call-tops : (ks : List ℕ) (xs : List Top) → Takes (holds 62) ks → AreKinds ks xs → (is : List Ids) → (ids_tops xs (bare ∷ is) ≡ known (grand_top 48 xs) None None ∷ is) × (child_top 52 xs ≡ None) × (child_top 49 xs ≡ None)
 unfolding holds rules
 call-tops ks xs w h is =
     let o = takes_one (call_label ∷ []) [] ks w in
@@ -98,10 +97,10 @@ call-tops ks xs w h is =
     let f : xs ≡ x.0 ∷ [] = x.2 ∙ ap (λ (l : List Top). x.0 ∷ l) (no-tops x.1 x.4) in
     rw f (at x.0 x.3)
   where
-    at : (x : Top) → IsKind call_label x → (ids_tops (x ∷ []) (bare ∷ is) ≡ known (grand_top 48 (x ∷ [])) Nothing Nothing ∷ is) × (child_top 52 (x ∷ []) ≡ Nothing) × (child_top 49 (x ∷ []) ≡ Nothing)
+    at : (x : Top) → IsKind call_label x → (ids_tops (x ∷ []) (bare ∷ is) ≡ known (grand_top 48 (x ∷ [])) None None ∷ is) × (child_top 52 (x ∷ []) ≡ None) × (child_top 49 (x ∷ []) ≡ None)
     at x h = (part-call x bare is h ∙ rw (or-nothing (child_of 48 x.inside)) refl, rw (is-named call_label 52 x false h refl) refl, rw (is-named call_label 49 x false h refl) refl)
 
-pub call-ids : (f : Forest) {ks : List ℕ} → Kinds ks f → Takes (holds 62) ks → (is : List Ids) → ids_over f (bare ∷ is) ≡ known (grandchild_of 48 f) Nothing Nothing ∷ is
+pub call-ids : (f : Forest) {ks : List ℕ} → Kinds ks f → Takes (holds 62) ks → (is : List Ids) → ids_over f (bare ∷ is) ≡ known (grandchild_of 48 f) None None ∷ is
 call-ids f {ks} c w is = ids-tops c (bare ∷ is) ∙ rw (grand-tops 48 f) (call-tops ks (tops f) w (kinds-tops c) is).0
 
 pub call-seeks : (f : Forest) {ks : List ℕ} → Kinds ks f → Takes (holds 62) ks → sought_in f ≡ grandchild_of 48 f

@@ -1,5 +1,5 @@
 -- What each command does to the values. Assumes nothing.
-use Rattle.std.specs.Prelude.{if◌then◌else◌}
+use Rattle.std.specs.Prelude.{if◌then◌else◌, Some, None}
 use mathlib.Core.Path.{◌≡◌, refl, sym, ◌∙◌}
 use mathlib.Core.Bool.{Bool, true, false, ◌||◌}
 use mathlib.Core.List.{List, [], ◌∷◌, ◌++◌}
@@ -8,9 +8,7 @@ use Prim.Native.Nat.{ℕ, zero, suc}
 use lib.Dec.{T}
 use Rattle.event.specs.declared.Event.{Event}
 use Rattle.character_reference.specs.Reference.{reference_for}
-use Rattle.normalize_identifier.specs.declared.Found.{Found}
-use Rattle.normalize_identifier.specs.declared.Found.TheVariants.{At, Nothing}
-use Rattle.normalize_identifier.specs.Search.{first_same}
+use Rattle.normalize_identifier.specs.Search.{Found, first_same}
 use Rattle.machine.specs.Outcome.{Outcome, go, ◌>>=◌, need}
 use Rattle.machine.specs.State.{State, Span, Destination, no_destination, own, defined, Media}
 use Rattle.machine.specs.Set.{set_captures, set_media, set_destination, set_marker, set_labels, set_flag, alt, add_definition, add_footnote, set_calls}
@@ -69,8 +67,8 @@ module _ (t : Turn) (s u : State) where
   led-by no_destination (some b) r h = at (first_same (definition_labels s.kept.definitions) b) h
     where
       at : (f : Found) → defined_at f ≡ go r → is_led r ≡ true
-      at (At k) q = let e : defined k ≡ r = cc in rw (sym e) refl
-      at Nothing q = never q
+      at (Some k) q = let e : defined k ≡ r = cc in rw (sym e) refl
+      at None q = never q
   led-by (own b) sought r h = let e : own b ≡ r = cc in rw (sym e) refl
   led-by (defined k) sought r h = let e : defined k ≡ r = cc in rw (sym e) refl
 

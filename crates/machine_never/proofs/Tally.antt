@@ -1,5 +1,5 @@
 -- A call that is counted keeps the tally, and the tally keeps the calls in the code's table. Assumes nothing.
-use Rattle.std.specs.Prelude.{if◌then◌else◌}
+use Rattle.std.specs.Prelude.{if◌then◌else◌, Some, None}
 use mathlib.Core.Path.{◌≡◌, refl, sym, ap, ◌∙◌}
 use mathlib.Core.Bool.{Bool, true, false, ◌||◌}
 use mathlib.Core.Logic.{◌⊎◌, inl, inr}
@@ -9,10 +9,8 @@ use native.Mathlib.Omega.{arith}
 use borrow.Author.Tests.{lt-ltb}
 use lib.ListN.{length}
 use Rattle.lent.specs.Bytes.{same, listed}
-use Rattle.normalize_identifier.specs.declared.Found.{Found}
-use Rattle.normalize_identifier.specs.declared.Found.TheVariants.{At, Nothing}
 use Rattle.normalize_identifier.specs.Identity.{identity_of}
-use Rattle.normalize_identifier.specs.Search.{first_from, first_same}
+use Rattle.normalize_identifier.specs.Search.{Found, first_from, first_same}
 use Rattle.lent.proofs.Same.{same-iff}
 use Rattle.check_rules.proofs.Before.{clash}
 use Rattle.machine.specs.State.{Call}
@@ -31,19 +29,19 @@ counted b (c ∷ cs) = if same (identity_of c.label) (identity_of b) then again 
 
 -- ---- by the search
 
-later : (k : ℕ) (ls : List (List ℕ)) (b : List ℕ) (j : ℕ) → first_from k ls b ≡ At j → k ≤ j
+later : (k : ℕ) (ls : List (List ℕ)) (b : List ℕ) (j : ℕ) → first_from k ls b ≡ Some j → k ≤ j
 unfolding first_from
 later k [] b j e = let z : ◌≡◌ {A = ℕ} 0 1 = cc in absurd (omega arith)
 later k (l ∷ ls) b j e = at (same (identity_of l) (identity_of b)) e (later (k + 1) ls b j)
   where
-    at : (x : Bool) → (if x then At k else first_from (k + 1) ls b) ≡ At j → (first_from (k + 1) ls b ≡ At j → k + 1 ≤ j) → k ≤ j
+    at : (x : Bool) → (if x then Some k else first_from (k + 1) ls b) ≡ Some j → (first_from (k + 1) ls b ≡ Some j → k + 1 ≤ j) → k ≤ j
     at true q more = let i : k ≡ j = cc in omega arith
     at false q more = let m = more q in omega arith
 
 -- one further
-index-next : (k n : ℕ) (f : Found) → ((j : ℕ) → f ≡ At j → k + 1 ≤ j) → at_or (k + suc n) f - k ≡ suc (at_or (k + 1 + n) f - (k + 1))
-index-next k n (At j) h = let l = h j refl in omega arith
-index-next k n Nothing h = omega arith
+index-next : (k n : ℕ) (f : Found) → ((j : ℕ) → f ≡ Some j → k + 1 ≤ j) → at_or (k + suc n) f - k ≡ suc (at_or (k + 1 + n) f - (k + 1))
+index-next k n (Some j) h = let l = h j refl in omega arith
+index-next k n None h = omega arith
 
 counts : (k : ℕ) (b : List ℕ) (cs : List Call) → count_at (at_or (k + length cs) (first_from k (call_labels cs) b) - k) b cs ≡ counted b cs
 unfolding count_at first_from
@@ -51,7 +49,7 @@ counts k b [] = refl
 counts k b (c ∷ cs) = at (same (identity_of c.label) (identity_of b)) (counts (k + 1) b cs)
   where
     at : (x : Bool) → count_at (at_or (k + 1 + length cs) (first_from (k + 1) (call_labels cs) b) - (k + 1)) b cs ≡ counted b cs
-        → count_at (at_or (k + suc (length cs)) (if x then At k else first_from (k + 1) (call_labels cs) b) - k) b (c ∷ cs) ≡ (if x then again c ∷ cs else c ∷ counted b cs)
+        → count_at (at_or (k + suc (length cs)) (if x then Some k else first_from (k + 1) (call_labels cs) b) - k) b (c ∷ cs) ≡ (if x then again c ∷ cs else c ∷ counted b cs)
     at true h = let z : k - k ≡ 0 = omega arith in rw z refl
     at false h = rw (index-next k (length cs) (first_from (k + 1) (call_labels cs) b) (λ j e. later (k + 1) (call_labels cs) b j e)) (ap (λ (l : List Call). c ∷ l) h)
 

@@ -1,4 +1,5 @@
 -- An element's children as a list. Assumes nothing.
+use Rattle.std.proofs.Common.{Some, None}
 use Rattle.std.specs.Prelude.{if◌then◌else◌}
 use mathlib.Core.Path.{◌≡◌, refl, sym, ap, ◌∙◌}
 use mathlib.Core.Bool.{Bool, true, false, not, ◌||◌}
@@ -10,9 +11,7 @@ use native.Mathlib.Omega.{arith}
 use lib.Dec.{T, eqb, leb}
 use borrow.Author.Tests.{le-leb, lt-leb, eqb-true}
 use Rattle.lent.specs.Bytes.{one_of}
-use Rattle.check_labels.specs.declared.Part.{Part}
-use Rattle.check_labels.specs.declared.Part.TheVariants.{Slice, Nothing}
-use Rattle.check_labels.specs.Labels.{or_else}
+use Rattle.check_labels.specs.Labels.{Part, or_else}
 use Rattle.check_nesting.specs.Grammar.{Item, one, opt, name_of}
 use Rattle.check_nesting.specs.Nests.{Takes, nothing, one-taken, opt_none, opt-taken}
 use Rattle.check_rules.specs.Elements.{Forest, nil, element, child_of, grandchild_of}
@@ -25,14 +24,14 @@ use Rattle.machine_never.specs.Ghost.{effects_at, ids_run, ids_over, Top, tops, 
 use Rattle.machine_never.proofs.Inert.{thin-runs}
 
 or-else : (x y z : Part) → or_else (or_else x y) z ≡ or_else x (or_else y z)
-or-else (Slice from to) y z = refl
-or-else Nothing y z = refl
+or-else (Some (from, to)) y z = refl
+or-else None y z = refl
 
 child-join : (n : ℕ) (xs ys : List Top) → child_top n (xs ++ ys) ≡ or_else (child_top n xs) (child_top n ys)
 child-join n [] ys = refl
 child-join n (x ∷ xs) ys = at (eqb x.enter.name n) (child-join n xs ys)
   where
-    at : (b : Bool) → child_top n (xs ++ ys) ≡ or_else (child_top n xs) (child_top n ys) → (if b then Slice x.exit.from.0 x.exit.to.0 else child_top n (xs ++ ys)) ≡ or_else (if b then Slice x.exit.from.0 x.exit.to.0 else child_top n xs) (child_top n ys)
+    at : (b : Bool) → child_top n (xs ++ ys) ≡ or_else (child_top n xs) (child_top n ys) → (if b then Some (x.exit.from.0, x.exit.to.0) else child_top n (xs ++ ys)) ≡ or_else (if b then Some (x.exit.from.0, x.exit.to.0) else child_top n xs) (child_top n ys)
     at true h = refl
     at false h = h
 
@@ -45,7 +44,7 @@ child-tops n nil = refl
 child-tops n (element a f z g) = at (leb a.name 4) (child-tops n f) (child-tops n g)
   where
     at : (b : Bool) → child_of n f ≡ child_top n (tops f) → child_of n g ≡ child_top n (tops g)
-        → (if b then or_else (child_of n f) (child_of n g) else (if eqb a.name n then Slice z.from.0 z.to.0 else child_of n g)) ≡ child_top n (if b then tops f ++ tops g else record { enter = a; inside = f; exit = z } ∷ tops g)
+        → (if b then or_else (child_of n f) (child_of n g) else (if eqb a.name n then Some (z.from.0, z.to.0) else child_of n g)) ≡ child_top n (if b then tops f ++ tops g else record { enter = a; inside = f; exit = z } ∷ tops g)
     at true h k = rw (h, k) (sym (child-join n (tops f) (tops g)))
     at false h k = rw k refl
 
@@ -88,7 +87,7 @@ kinds-tops (child {a} {z} {k} {ks = ks} {f = f} e l r w c d) =
     rw p (record { named = e; five = l; pair = r; inner = ks; takes = w; kinds = c }, kinds-tops d)
 
 -- no child of these kinds is named so
-pub absent : (n : ℕ) (ks : List ℕ) (xs : List Top) → AreKinds ks xs → T (every (λ k. not (eqb (name_of k) n)) ks) → child_top n xs ≡ Nothing
+pub absent : (n : ℕ) (ks : List ℕ) (xs : List Top) → AreKinds ks xs → T (every (λ k. not (eqb (name_of k) n)) ks) → child_top n xs ≡ None
 absent n [] [] h t = refl
 absent n [] (x ∷ xs) h t = absurd h
 absent n (k ∷ ks) [] h t = absurd h
@@ -101,7 +100,7 @@ absent n (k ∷ ks) (x ∷ xs) h t =
     failed true t = absurd t
     failed false t = refl
 
-pub absent-in : (n : ℕ) {ks : List ℕ} {f : Forest} → Kinds ks f → T (every (λ k. not (eqb (name_of k) n)) ks) → child_of n f ≡ Nothing
+pub absent-in : (n : ℕ) {ks : List ℕ} {f : Forest} → Kinds ks f → T (every (λ k. not (eqb (name_of k) n)) ks) → child_of n f ≡ None
 absent-in n {ks} {f} c t = child-tops n f ∙ absent n ks (tops f) (kinds-tops c) t
 
 -- ---- what a rule takes

@@ -1,11 +1,9 @@
 -- What the events alone tell of the open media: their slices, along a list and along a forest. Assumes nothing.
-use Rattle.std.specs.Prelude.{◌≡◌, Bool, true, false, ◌&&◌, List, [], ◌∷◌, ◌++◌, ℕ, ◌≤◌, eqb, leb, if◌then◌else◌}
+use Rattle.std.specs.Prelude.{◌≡◌, Bool, true, false, ◌&&◌, List, [], ◌∷◌, ◌++◌, ℕ, ◌≤◌, eqb, leb, if◌then◌else◌, Some, None}
 use Rattle.std.proofs.Math.Option.{Option, some}
 use Rattle.event.specs.declared.Event.{Event}
 use Rattle.event.specs.Event.{is_enter}
-use Rattle.check_labels.specs.declared.Part.{Part}
-use Rattle.check_labels.specs.declared.Part.TheVariants.{Slice, Nothing}
-use Rattle.check_labels.specs.Labels.{or_else}
+use Rattle.check_labels.specs.Labels.{Part, or_else}
 use Rattle.check_nesting.specs.Grammar.{name_of, holds}
 use Rattle.check_nesting.specs.Nests.{Takes}
 use Rattle.check_rules.specs.Elements.{Forest, nil, element, Pair, child_of}
@@ -53,11 +51,11 @@ tops nil = []
 tops (element a f z g) = if leb a.name 4 then tops f ++ tops g else record { enter = a; inside = f; exit = z } ∷ tops g
 
 abbrev pub child_top : ℕ → List Top → Part
-child_top n [] = Nothing
-child_top n (x ∷ xs) = if eqb x.enter.name n then Slice x.exit.from.0 x.exit.to.0 else child_top n xs
+child_top n [] = None
+child_top n (x ∷ xs) = if eqb x.enter.name n then Some (x.exit.from.0, x.exit.to.0) else child_top n xs
 
 abbrev pub grand_top : ℕ → List Top → Part
-grand_top n [] = Nothing
+grand_top n [] = None
 grand_top n (x ∷ xs) = or_else (child_of n x.inside) (grand_top n xs)
 
 abbrev pub ids_tops : List Top → List Ids → List Ids
@@ -80,12 +78,12 @@ AreKinds (k ∷ ks) (x ∷ xs) = IsKind k x × AreKinds ks xs
 
 -- a part's slice, or what was there
 abbrev pub or_that : Part → Option Span → Option Span
-or_that (Slice from to) o = some (record { from = from; to = to })
-or_that Nothing o = o
+or_that (Some (from, to)) o = some (record { from = from; to = to })
+or_that None o = o
 
 abbrev pub is_part : Part → Bool
-is_part (Slice from to) = true
-is_part Nothing = false
+is_part (Some (from, to)) = true
+is_part None = false
 
 -- ---- tests of effects
 

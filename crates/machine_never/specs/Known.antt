@@ -1,10 +1,8 @@
 -- Labels of the list that are among kept labels, by their identities. Assumes nothing.
-use Rattle.std.specs.Prelude.{◌≡◌, ◌⊎◌, List, [], ◌∷◌, ℕ}
+use Rattle.std.specs.Prelude.{◌≡◌, ◌⊎◌, List, [], ◌∷◌, ℕ, Some, None}
 use Rattle.event.specs.declared.Event.{Event}
 use Rattle.normalize_identifier.specs.Identity.{identity_of}
-use Rattle.check_labels.specs.declared.Part.{Part}
-use Rattle.check_labels.specs.declared.Part.TheVariants.{Slice, Nothing}
-use Rattle.check_labels.specs.Labels.{slice, label_of}
+use Rattle.check_labels.specs.Labels.{Part, slice, label_of}
 use Rattle.check_rules.specs.Elements.{Forest, nil, element}
 
 -- one of the labels has this identity
@@ -13,8 +11,8 @@ Has id [] = ⊥
 Has id (l ∷ ls) = (identity_of l ≡ id) ⊎ Has id ls
 
 abbrev pub HasPart : List ℕ → Part → List (List ℕ) → Type 0
-HasPart text (Slice from to) ls = Has (identity_of (slice text from to)) ls
-HasPart text Nothing ls = Unit {0}
+HasPart text (Some (from, to)) ls = Has (identity_of (slice text from to)) ls
+HasPart text None ls = Unit {0}
 
 -- the slices of the exits of an n are
 abbrev pub Known : List ℕ → ℕ → List Event → List (List ℕ) → Type 0

@@ -1,4 +1,5 @@
 -- Commands on the newest medium. Assumes nothing.
+use Rattle.std.proofs.Common.{Some, None}
 use mathlib.Core.Path.{◌≡◌, refl, sym, ap}
 use mathlib.Core.Bool.{Bool}
 use mathlib.Core.List.{List, [], ◌∷◌}
@@ -8,9 +9,7 @@ use native.Mathlib.Omega.{arith}
 use lib.Dec.{T, ltb, ltb→lt}
 use borrow.Author.Tests.{lt-ltb}
 use lib.ListN.{length, get_elem?}
-use Rattle.normalize_identifier.specs.declared.Found.{Found}
-use Rattle.normalize_identifier.specs.declared.Found.TheVariants.{At, Nothing}
-use Rattle.normalize_identifier.specs.Search.{first_same}
+use Rattle.normalize_identifier.specs.Search.{Found, first_same}
 use Rattle.normalize_identifier.proofs.Laws.{first-at}
 use Rattle.machine.specs.declared.Options.{Options}
 use Rattle.machine.specs.Outcome.{Outcome, go, ◌>>=◌, need}
@@ -60,11 +59,11 @@ labels-long [] = refl
 labels-long (d ∷ ds) = ap suc (labels-long ds)
 
 found-there : (ds : List Definition) (b : List ℕ) (f : Found) (d : Destination) → first_same (definition_labels ds) b ≡ f → defined_at f ≡ go d → T (points_to (length ds) d)
-found-there ds b (At k) d p q =
+found-there ds b (Some k) d p q =
     let i : k < length (definition_labels ds) = (first-at (definition_labels ds) b k p).inside in
     let e : defined k ≡ d = cc in
     rw (sym e) (rw (lt-ltb k (length ds) (omega (arith, labels-long ds))) tt)
-found-there ds b Nothing d p q = let z : ◌≡◌ {A = ℕ} 0 1 = cc in absurd (omega arith)
+found-there ds b None d p q = let z : ◌≡◌ {A = ℕ} 0 1 = cc in absurd (omega arith)
 
 -- a destination that is found leads to a definition that is there
 pub leads : (ds : List Definition) (d : Destination) (sought : Option (List ℕ)) (r : Destination) → T (points_to (length ds) d) → destination_of ds d sought ≡ go r → T (points_to (length ds) r)

@@ -1,36 +1,26 @@
--- Why two labels can be compared by their cursors. Assumes nothing.
-use mathlib.Core.Path.{◌≡◌, ◌∙◌}
-use mathlib.Core.Bool.{Bool, true, false}
-use mathlib.Core.List.{List, []}
-use Prim.Native.Nat.{ℕ}
-use borrow.Author.Tests.{eq-eqb, ne_eqb}
+-- Why two labels can be compared by their iterators. Assumes nothing.
+use Rattle.std.proofs.Common.{◌≡◌, ℕ, Bool, true, false, List, [], ◌∷◌, eqb, Option, Some, None, IfSome}
+use Rattle.std.specs.Iterator.{YieldsFirst, YieldsThen}
+use Rattle.std.specs.List.{AllZip}
+use Rattle.std.specs.Option.{MatchOption}
 use Rattle.lent.specs.Bytes.{same}
-use Rattle.normalize_identifier.specs.declared.Cursor.{Cursor}
-use Rattle.normalize_identifier.specs.declared.Step.{Step}
-use Rattle.normalize_identifier.specs.declared.Step.TheVariants.{Byte, End}
-use Rattle.normalize_identifier.specs.Identity.{at_start, identity_of, left_at, Spells}
-use Rattle.normalize_identifier.proofs.Laws.{left-start, left-more, left_end}
+use Rattle.normalize_identifier.specs.declared.Identity.{Identity}
+use Rattle.normalize_identifier.specs.Left.{left}
 
-module _ {label : List ℕ} {c : Cursor} {n : Step} (s : Spells label c n) where
-  pub not-ended : {b : ℕ} {d : Cursor} → n ≡ Byte b d → false ≡ same [] (left_at label c)
-  not-ended p = rw (left-more s p)
+-- the next answers of two iterators, and what they say of what both had left
+abbrev pub Last : Bool → Option ℕ → Option ℕ → Type 0
+Last r o p = MatchOption o (MatchOption p (r ≡ true) (λ _. r ≡ false)) (λ x. (r ≡ false) × IfSome p (λ y. eqb x y ≡ false))
 
-  pub ended : n ≡ End → true ≡ same [] (left_at label c)
-  ended p = rw (left_end s p)
+ends : (i j u v : Identity) (o p : Option ℕ) (r : Bool) → YieldsFirst left i o u → YieldsFirst left j p v → Last r o p → r ≡ same (left i) (left j)
+ends i j u v None None r a b e = rw (a.0, b.0) e
+ends i j u v None (Some y) r a b e = rw (a.0, b) e
+ends i j u v (Some x) None r a b e = rw (a, b.0) e.0
+ends i j u v (Some x) (Some y) r a b e = rw (a, b, e.1) e.0
 
--- two cursors at the start, moved on together, at the end of the second, at unequal bytes, at the end of the first
-pub same_start : {c d : Cursor} (a b : List ℕ) → c ≡ at_start → d ≡ at_start → same (left_at a c) (left_at b d) ≡ same (identity_of a) (identity_of b)
-same_start a b p q = rw (left-start a p, left-start b q)
-
-module _ {a : List ℕ} {c : Cursor} {m : Step} {w : Bool} (b : List ℕ) (d : Cursor) (e : same (left_at a c) (left_at b d) ≡ w) (s : Spells a c m) where
-  pub same_more : {n : Step} {x y : ℕ} {f g : Cursor} → m ≡ Byte x f → Spells b d n → n ≡ Byte y g → x ≡ y → same (left_at a f) (left_at b g) ≡ w
-  same_more {x} {y} p t q h = let z = eq-eqb x y h in rw (left-more s p, left-more t q, z) at e
-
-  pub same-differ : {n : Step} {x y : ℕ} {f g : Cursor} → m ≡ Byte x f → Spells b d n → n ≡ Byte y g → (x ≡ y → ⊥) → false ≡ w
-  same-differ {x} {y} p t q h = let z = ne_eqb x y h in rw (left-more s p, left-more t q, z) at e
-
-  pub same-longer : {n : Step} {x : ℕ} {f : Cursor} → m ≡ Byte x f → Spells b d n → n ≡ End → false ≡ w
-  same-longer p t q = rw (left-more s p, left_end t q) at e
-
-  pub same_end : {t : Bool} → m ≡ End → t ≡ same [] (left_at b d) → t ≡ w
-  same_end p q = q ∙ (rw (left_end s p) at e)
+-- two iterators that gave the same bytes, and then two answers
+pub compared : (i j u v : Identity) (xs ys : List ℕ) (o p : Option ℕ) (r : Bool) → YieldsThen (YieldsFirst left) i xs o u → YieldsThen (YieldsFirst left) j ys p v → AllZip (λ x y. eqb x y ≡ true) xs ys → Last r o p
+    → r ≡ same (left i) (left j)
+compared i j u v [] [] o p r a b z e = rw (a.1, b.1) (ends a.0 b.0 u v o p r a.2 b.2 e)
+compared i j u v [] (y ∷ ys) o p r a b z e = absurd z
+compared i j u v (x ∷ xs) [] o p r a b z e = absurd z
+compared i j u v (x ∷ xs) (y ∷ ys) o p r a b z e = rw (a.1.1, b.1.1, z.0) (compared a.1.0 b.1.0 u v xs ys o p r (a.0, a.1.2, a.2) (b.0, b.1.2, b.2) z.1 e)

@@ -1,6 +1,5 @@
 -- Identities as RULES R6.1 has them, computed. Assumes nothing.
-use mathlib.Core.Path.{◌≡◌, refl}
-use mathlib.Core.List.{[], ◌∷◌}
+use Rattle.std.proofs.Common.{◌≡◌, refl, [], ◌∷◌}
 use Rattle.lent.specs.Bytes.{bytes}
 use Rattle.normalize_identifier.specs.Identity.{blank, folded, identity_from, identity_of}
 

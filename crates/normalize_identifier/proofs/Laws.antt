@@ -1,23 +1,11 @@
 -- What other crates go by: laws of identities, of cursors and of the search. Assumes nothing.
-use mathlib.Core.Path.{◌≡◌, refl, sym, ap, ◌∙◌}
-use mathlib.Core.Logic.{◌↔◌}
-use mathlib.Core.Bool.{Bool, true, false, not, true≢false}
-use mathlib.Core.List.{List, [], ◌∷◌, ◌++◌}
-use Prim.Native.Nat.{ℕ, zero, suc, ◌+◌, ◌-◌, ◌<◌, ◌≤◌}
-use native.Mathlib.Omega.{arith}
-use native.Mathlib.Numerals.{add-one}
-use lib.Dec.{leb}
-use lib.ListN.{length, get_or, take, drop, set, length-take}
-use lib.Seq.{take-suc-set}
-use borrow.Author.Tests.{leb-true, lt-leb}
+use Rattle.std.proofs.Common.{◌≡◌, refl, sym, ap, ◌∙◌, ◌↔◌, Bool, true, false, not, true≢false, List, [], ◌∷◌, ◌++◌, ℕ, zero, suc, ◌+◌, ◌-◌, ◌<◌, ◌≤◌, arith, add-one, leb, length, get_or, take, drop, set, length-take, take-suc-set, leb-true, Option, Some, None}
+use borrow.Author.Tests.{lt-leb}
 use Rattle.lent.specs.Bytes.{all, between, same}
 use Rattle.lent.proofs.Same.{same-iff}
 use Rattle.lent.proofs.Laws.{and_left, and_right}
 use Rattle.normalize_identifier.specs.declared.Cursor.{Cursor}
-use Rattle.normalize_identifier.specs.declared.Step.{Step}
-use Rattle.normalize_identifier.specs.declared.Step.TheVariants.{Byte, End}
 use Rattle.normalize_identifier.specs.Identity.{at_start, blank, folded, identity_from, identity_of, left_at, spelled, Spells}
-use Rattle.normalize_identifier.specs.declared.Found.TheVariants.{At, Nothing}
 use Rattle.normalize_identifier.specs.Search.{parts, labels_of, first_from, first_same}
 
 -- ---- the definition at a byte that is blank, and at one that is not
@@ -46,16 +34,16 @@ pub left-start : {c : Cursor} (label : List ℕ) → c ≡ at_start → left_at 
 unfolding left_at identity_of
 left-start label p = rw p
 
-module _ {label : List ℕ} {c : Cursor} {n : Step} (s : Spells label c n) where
-  pub left-more : {b : ℕ} {d : Cursor} → n ≡ Byte b d → left_at label c ≡ b ∷ left_at label d
+module _ {label : List ℕ} {c : Cursor} {n : Option (ℕ × Cursor)} (s : Spells label c n) where
+  pub left-more : {b : ℕ} {d : Cursor} → n ≡ Some (b, d) → left_at label c ≡ b ∷ left_at label d
   unfolding spelled
   left-more p = rw p at s.left
 
-  pub left_end : n ≡ End → left_at label c ≡ []
+  pub left_end : n ≡ None → left_at label c ≡ []
   unfolding spelled
   left_end p = rw p at s.left
 
-  pub forward-more : {b : ℕ} {d : Cursor} → n ≡ Byte b d → length label - d.at < length label - c.at
+  pub forward-more : {b : ℕ} {d : Cursor} → n ≡ Some (b, d) → length label - d.at < length label - c.at
   forward-more p = let f = rw p at s.forward in omega arith
 
 -- ---- the same bytes, the same identities
@@ -113,18 +101,18 @@ pub record First (labels : List (List ℕ)) (label : List ℕ) (k : ℕ) : Type 
 unequal : (a b : List ℕ) → same (identity_of a) (identity_of b) ≡ false → identity_of a ≡ identity_of b → ⊥
 unequal a b p q = let z : ◌≡◌ {A = Bool} true false = sym ((same-identities a b).1 q) ∙ p in true≢false z
 
-from_at : (j k : ℕ) (labels : List (List ℕ)) (label : List ℕ) → first_from j labels label ≡ At k → (i : ℕ) × (k ≡ j + i) × First labels label i
+from_at : (j k : ℕ) (labels : List (List ℕ)) (label : List ℕ) → first_from j labels label ≡ Some k → (i : ℕ) × (k ≡ j + i) × First labels label i
 unfolding first_from
 from_at j k [] label p = let z : ◌≡◌ {A = ℕ} 0 1 = cc in absurd (omega arith)
 from_at j k (l ∷ ls) label p = go (same (identity_of l) (identity_of label)) refl (from_at (j + 1) k ls label)
   where
-    go : (t : Bool) → same (identity_of l) (identity_of label) ≡ t → (first_from (j + 1) ls label ≡ At k → (i : ℕ) × (k ≡ j + 1 + i) × First ls label i) → (i : ℕ) × (k ≡ j + i) × First (l ∷ ls) label i
+    go : (t : Bool) → same (identity_of l) (identity_of label) ≡ t → (first_from (j + 1) ls label ≡ Some k → (i : ℕ) × (k ≡ j + 1 + i) × First ls label i) → (i : ℕ) × (k ≡ j + i) × First (l ∷ ls) label i
     go true q ih =
-        let e : At j ≡ At k = rw q at p in
+        let e : Some j ≡ Some k = rw q at p in
         let f : j ≡ k = cc in
         (0, omega arith, record { inside = omega arith; alike = (same-identities l label).0 q; before = λ i h. absurd (omega arith) })
     go false q ih =
-        let e : first_from (j + 1) ls label ≡ At k = rw q at p in
+        let e : first_from (j + 1) ls label ≡ Some k = rw q at p in
         let r = ih e in
         let f = r.2 in (
           suc r.0,
@@ -136,26 +124,26 @@ from_at j k (l ∷ ls) label p = go (same (identity_of l) (identity_of label)) r
           },
         )
 
-pub first-at : (labels : List (List ℕ)) (label : List ℕ) (k : ℕ) → first_same labels label ≡ At k → First labels label k
+pub first-at : (labels : List (List ℕ)) (label : List ℕ) (k : ℕ) → first_same labels label ≡ Some k → First labels label k
 unfolding first_same
 first-at labels label k p =
     let r = from_at 0 k labels label p in
     let e : k ≡ r.0 = omega (arith, r.1) in
     rw e r.2
 
-from-none : (j : ℕ) (labels : List (List ℕ)) (label : List ℕ) → first_from j labels label ≡ Nothing → (i : ℕ) → i < length labels → identity_of (get_or labels i []) ≡ identity_of label → ⊥
+from-none : (j : ℕ) (labels : List (List ℕ)) (label : List ℕ) → first_from j labels label ≡ None → (i : ℕ) → i < length labels → identity_of (get_or labels i []) ≡ identity_of label → ⊥
 unfolding first_from
 from-none j [] label p i h = absurd (omega arith)
 from-none j (l ∷ ls) label p i h = go (same (identity_of l) (identity_of label)) refl i h (from-none (j + 1) ls label)
   where
     go : (t : Bool) → same (identity_of l) (identity_of label) ≡ t → (i : ℕ) → i < length (l ∷ ls)
-        → (first_from (j + 1) ls label ≡ Nothing → (i : ℕ) → i < length ls → identity_of (get_or ls i []) ≡ identity_of label → ⊥)
+        → (first_from (j + 1) ls label ≡ None → (i : ℕ) → i < length ls → identity_of (get_or ls i []) ≡ identity_of label → ⊥)
         → identity_of (get_or (l ∷ ls) i []) ≡ identity_of label → ⊥
-    go true q i h ih = let e : At j ≡ Nothing = rw q at p in let z : ◌≡◌ {A = ℕ} 0 1 = cc in absurd (omega arith)
+    go true q i h ih = let e : Some j ≡ None = rw q at p in let z : ◌≡◌ {A = ℕ} 0 1 = cc in absurd (omega arith)
     go false q zero h ih = unequal l label q
     go false q (suc i) h ih = ih (rw q at p) i (omega arith)
 
-pub first-none : (labels : List (List ℕ)) (label : List ℕ) → first_same labels label ≡ Nothing → (i : ℕ) → i < length labels → identity_of (get_or labels i []) ≡ identity_of label → ⊥
+pub first-none : (labels : List (List ℕ)) (label : List ℕ) → first_same labels label ≡ None → (i : ℕ) → i < length labels → identity_of (get_or labels i []) ≡ identity_of label → ⊥
 unfolding first_same
 first-none labels label p = from-none 0 labels label p
 
@@ -166,7 +154,7 @@ parts-long text (s ∷ ss) [] = omega arith
 parts-long text (s ∷ ss) (e ∷ es) = omega (arith, parts-long text ss es)
 
 -- a place found is below n
-pub found_below : (text starts ends label : List ℕ) (n k : ℕ) → first_same (labels_of text starts ends n) label ≡ At k → k < n
+pub found_below : (text starts ends label : List ℕ) (n k : ℕ) → first_same (labels_of text starts ends n) label ≡ Some k → k < n
 unfolding labels_of
 found_below text starts ends label n k p =
     omega (arith, (first-at (labels_of text starts ends n) label k p).inside, parts-long text (take n starts) (take n ends), length-take n starts)

@@ -1,16 +1,8 @@
 -- Why one step of a cursor is right: blanks skipped, then the end, a space or a byte. Assumes nothing.
-use mathlib.Core.Path.{◌≡◌, refl, sym, ◌∙◌}
-use mathlib.Core.Bool.{Bool, true, false, ◌&&◌, and-true, and-false}
-use mathlib.Core.List.{List, [], ◌∷◌}
-use Prim.Native.Nat.{ℕ, zero, suc, ◌+◌, ◌<◌, ◌≤◌}
-use native.Mathlib.Omega.{arith}
-use lib.Dec.{ltb}
-use lib.ListN.{length, get_or, drop, drop_of_length-le, length-drop}
-use lib.Seq.{drop-drop, get_or-drop}
-use borrow.Author.Tests.{lt-ltb, le-ltb, ltb-true}
-use Rattle.lent.proofs.Laws.{next, and_right}
+use Rattle.std.proofs.Common.{◌≡◌, refl, sym, ◌∙◌, Bool, true, false, ◌&&◌, List, [], ◌∷◌, ℕ, zero, suc, ◌+◌, ◌<◌, ◌≤◌, arith, ltb, length, get_or, drop, drop_of_length-le, length-drop, drop-drop, get_or-drop, lt-ltb, le-ltb, ◌⊎◌, inl, inr, max, Some, None}
+use mathlib.Core.Bool.{and-true, and-false}
+use Rattle.lent.proofs.Laws.{next}
 use Rattle.normalize_identifier.specs.declared.Cursor.{Cursor}
-use Rattle.normalize_identifier.specs.declared.Step.TheVariants.{Byte, End}
 use Rattle.normalize_identifier.specs.Identity.{blank, blanks, folded, identity_from, left_at, spelled, Spells}
 use Rattle.normalize_identifier.proofs.Laws.{at-blank, at_byte, at_gap, at-end}
 
@@ -42,6 +34,10 @@ module _ (l : List ℕ) (i n : ℕ) (e : i + blanks (drop i l) ≡ n) where
   skip-end h =
       let m : blanks (drop i l) ≡ 0 = rw (drop_of_length-le l h) in
       omega arith
+
+-- the end of the search, whether it began in the label or behind it
+pub skip_out : (l : List ℕ) (from i m : ℕ) → i + blanks (drop i l) ≡ from + blanks (drop from l) → length l ≤ i → (from ≤ length l → i ≤ length l) → m ≡ max from (length l) → m ≡ from + blanks (drop from l)
+skip_out l from i m e h k q = grind (arith, skip-end l i (from + blanks (drop from l)) e h, skip-end l from (from + blanks (drop from l)) refl)
 
 -- whether a space is due behind n blanks
 due : Bool → Bool → ℕ → Bool
@@ -84,7 +80,7 @@ module _ (label : List ℕ) (c : Cursor) (at : ℕ) (q : at ≡ c.at + blanks (d
   unfolding left_at
   left_behind = rw (q, ← due-code c.begun c.at, ← drop-drop) (passed c.begun false (drop c.at label))
 
-  pub step_end : length label ≤ at → Spells label c End
+  pub step_end : length label ≤ at → Spells label c None
   unfolding spelled
   step_end h = record { left = left_behind ∙ rw (drop_of_length-le label h) (at-end _ _); forward = tt }
 
@@ -93,18 +89,23 @@ module _ (label : List ℕ) (c : Cursor) (at : ℕ) (q : at ≡ c.at + blanks (d
       let l = length-drop c.at label in
       rw (q, ← get_or-drop c.at label) (stopped (drop c.at label) (omega arith))
 
-  pub step-space : (t : Bool) → at < length label → t ≡ (c.begun && ltb c.at at) → t ≡ true → Spells label c (Byte 32 (record { at = at; begun = true }))
+  pub step-space : at < length label → c.begun ≡ true → c.at < at → Spells label c (Some (32, record { at = at; begun = true }))
   unfolding spelled left_at
-  step-space t h g p =
+  step-space h p l =
       record {
-        left = left_behind ∙ rw (← g, p, next label at h) (at_gap _ _ c.begun true (kept h));
-        forward = (ltb-true _ _ (and_right c.begun (ltb c.at at) (sym g ∙ p)), omega arith);
+        left = left_behind ∙ rw (p, lt-ltb c.at at l, next label at h) (at_gap _ _ true true (kept h));
+        forward = (l, omega arith);
       }
 
-  pub step-byte : (t : Bool) (b : ℕ) → at < length label → t ≡ (c.begun && ltb c.at at) → t ≡ false → b ≡ folded (get_or label at 0) → Spells label c (Byte b (record { at = at + 1; begun = true }))
+  -- no space is due
+  tight : (c.begun ≡ true × (at ≤ c.at)) ⊎ (c.begun ≡ false) → (c.begun && ltb c.at at) ≡ false
+  tight (inl p) = rw (p.0, le-ltb c.at at p.1)
+  tight (inr p) = rw p
+
+  pub step-byte : (b : ℕ) → at < length label → (c.begun ≡ true × (at ≤ c.at)) ⊎ (c.begun ≡ false) → b ≡ folded (get_or label at 0) → Spells label c (Some (b, record { at = at + 1; begun = true }))
   unfolding spelled left_at
-  step-byte t b h g p f =
+  step-byte b h g f =
       record {
-        left = left_behind ∙ rw (← g, p, next label at h, f) (at_byte _ _ c.begun (kept h));
+        left = left_behind ∙ rw (tight g, next label at h, f) (at_byte _ _ c.begun (kept h));
         forward = (omega arith, omega arith);
       }

@@ -1,9 +1,7 @@
 -- Label identity (RULES R6.1): one space for each run of blanks and none at the ends, ASCII letters as capitals, all else as it stands. Assumes nothing.
-use Rattle.std.specs.Prelude.{◌≡◌, Bool, true, false, List, [], ◌∷◌, ℕ, suc, ◌<◌, ◌≤◌, length, drop, if◌then◌else◌}
+use Rattle.std.specs.Prelude.{◌≡◌, Bool, true, false, List, [], ◌∷◌, ℕ, suc, ◌<◌, ◌≤◌, length, drop, if◌then◌else◌, Option, Some, None}
 use Rattle.lent.specs.Bytes.{one_of, upper}
 use Rattle.normalize_identifier.specs.declared.Cursor.{Cursor}
-use Rattle.normalize_identifier.specs.declared.Step.{Step}
-use Rattle.normalize_identifier.specs.declared.Step.TheVariants.{Byte, End}
 
 -- tab, LF, CR and space
 unfoldable pub blank : ℕ → Bool
@@ -37,16 +35,16 @@ unfoldable pub left_at : List ℕ → Cursor → List ℕ
 left_at label c = identity_from c.begun false (drop c.at label)
 
 -- the bytes that an answer of `next` stands for
-unfoldable pub spelled : List ℕ → Step → List ℕ
-spelled label (Byte b d) = b ∷ left_at label d
-spelled label End = []
+unfoldable pub spelled : List ℕ → Option (ℕ × Cursor) → List ℕ
+spelled label (Some (b, d)) = b ∷ left_at label d
+spelled label None = []
 
 -- the cursor of an answer stands further on, and in the label
-abbrev pub Forward : List ℕ → Cursor → Step → Type 0
-Forward label c (Byte b d) = (c.at < d.at) × (d.at ≤ length label)
-Forward label c End = Unit
+abbrev pub Forward : List ℕ → Cursor → Option (ℕ × Cursor) → Type 0
+Forward label c (Some (b, d)) = (c.at < d.at) × (d.at ≤ length label)
+Forward label c None = Unit
 
 -- what is left at c is what the answer n stands for
-pub record Spells (label : List ℕ) (c : Cursor) (n : Step) : Type 0 where
+pub record Spells (label : List ℕ) (c : Cursor) (n : Option (ℕ × Cursor)) : Type 0 where
   pub left : left_at label c ≡ spelled label n
   pub forward : Forward label c n

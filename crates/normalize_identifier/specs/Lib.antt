@@ -1,2 +1,3 @@
 pub mod Identity
+pub mod Left
 pub mod Search

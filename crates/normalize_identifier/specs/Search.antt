@@ -1,9 +1,7 @@
 -- The search for a label in a table of labels: of equal ones the first counts. Assumes nothing.
-use Rattle.std.specs.Prelude.{List, [], ◌∷◌, ℕ, ◌+◌, ◌-◌, ◌<◌, ◌≤◌, length, get_or, take, drop, if◌then◌else◌}
+use Rattle.std.specs.Prelude.{List, [], ◌∷◌, ℕ, ◌+◌, ◌-◌, ◌<◌, ◌≤◌, length, get_or, take, drop, if◌then◌else◌, Option, Some, None}
 use Rattle.lent.specs.Bytes.{same}
 use Rattle.normalize_identifier.specs.Identity.{identity_of}
-use Rattle.normalize_identifier.specs.declared.Found.{Found}
-use Rattle.normalize_identifier.specs.declared.Found.TheVariants.{At, Nothing}
 
 -- the parts of a text from each start to its end
 unfoldable pub parts : List ℕ → List ℕ → List ℕ → List (List ℕ)
@@ -22,10 +20,14 @@ pub record Table (text starts ends : List ℕ) (n : ℕ) : Type 0 where
   pub ordered : (k : ℕ) → k < n → get_or starts k 0 ≤ get_or ends k 0
   pub inside : (k : ℕ) → k < n → get_or ends k 0 ≤ length text
 
+-- what a search finds: an index, or nothing
+abbrev pub Found : Type 0
+Found = Option ℕ
+
 -- the first of labels, counted from k, that has the identity of a label
 unfoldable pub first_from : ℕ → List (List ℕ) → List ℕ → Found
-first_from k [] label = Nothing
-first_from k (l ∷ ls) label = if same (identity_of l) (identity_of label) then At k else first_from (k + 1) ls label
+first_from k [] label = None
+first_from k (l ∷ ls) label = if same (identity_of l) (identity_of label) then Some k else first_from (k + 1) ls label
 
 unfoldable pub first_same : List (List ℕ) → List ℕ → Found
 first_same labels label = first_from 0 labels label

@@ -1,10 +1,13 @@
 // Label identity: written into a lent buffer, or compared byte by byte without writing it.
 #![tactic(auto)]
 
-ghost use Rattle.std.specs.Prelude.{◌&&◌, [], ◌≡◌, ◌+◌, drop};
+ghost use Rattle.std.specs.Prelude.{◌≡◌, ◌+◌, drop};
 ghost use Rattle.lent.specs.Bytes.{same};
-ghost use Rattle.lent.specs.Fill.{Filled};
-ghost use Rattle.normalize_identifier.specs.Identity.{at_start, blank, blanks, folded, identity_of, left_at, Spells};
+ghost use Rattle.lent.specs.Writer.{Writes};
+ghost use Rattle.normalize_identifier.specs.Identity.{at_start, blank, blanks, folded, identity_of, Spells};
+ghost use Rattle.normalize_identifier.specs.Left.{left};
+
+use lent::Writer;
 
 // A place in a label, and whether a byte of its identity stands before it.
 #[derive(Clone, Copy)]
@@ -13,87 +16,85 @@ pub struct Cursor {
     pub begun: bool,
 }
 
-// The next byte of an identity, with the cursor behind it.
+// The bytes of a label's identity that are left, one by one. Nothing of it is written.
 #[derive(Clone, Copy)]
-pub enum Step {
-    Byte(u8, Cursor),
-    End,
+pub struct Identity<'a> {
+    label: &'a [u8],
+    cursor: Cursor,
 }
 
-// What a search finds.
-#[derive(Clone, Copy)]
-pub enum Found {
-    At(usize),
-    Nothing,
+impl<'a> Identity<'a> {
+    // All of them.
+    pub fn new(label: &'a [u8]) -> Identity<'a>
+        ensures { left result ≡ identity_of label.now }
+    {
+        Identity {
+            label,
+            cursor: start(),
+        }
+    }
 }
 
+impl Iterator for Identity<'_> {
+    ghost use Rattle.std.specs.Iterator.{YieldsFirst, item_count};
+
+    type Item = u8;
+
+    ghost next_gives = { YieldsFirst left };
+
+    ghost remaining = { item_count left };
+
+    fn next(&mut self) -> Option<u8> {
+        let (b, cursor) = next(self.label, self.cursor)?;
+        self.cursor = cursor;
+        Some(b)
+    }
+}
+
+// No `match`: as one, each label takes a fifth more instructions.
+#[tactic(auto, unfolding(crate::specs::Identity::blank))]
 fn is_blank(b: u8) -> bool
     ensures { result ≡ blank b }
 {
-    if b == b'\t' {
-        return true;
-    }
-    if b == b'\n' {
-        return true;
-    }
-    if b == b'\r' {
-        return true;
-    }
-    b == b' '
+    b == b'\t' || b == b'\n' || b == b'\r' || b == b' '
 }
 
 fn fold(b: u8) -> u8
     ensures { result ≡ folded b }
 {
-    match b {
-        b'a'..=b'z' => b - 32,
-        _ => b,
-    }
-}
-
-fn and(a: bool, b: bool) -> bool
-    ensures { result ≡ (a && b) }
-{
-    if a {
-        return b;
-    }
-    false
+    b.to_ascii_uppercase()
 }
 
 // The place behind the blanks that stand at `from`.
 fn skip(label: &[u8], from: usize) -> usize
     ensures { result ≡ from + blanks (drop from label.now) }
 {
-    let mut i = from;
-    while i < label.len() {
-        if is_blank(label[i]) {
-            i += 1;
-            continue;
+    for i in from..label.len() {
+        if !is_blank(label[i]) {
+            return i;
         }
-        return i;
     }
-    i
+    from.max(label.len())
 }
 
 // One step: a space where blanks were passed behind a byte, else the next byte, upper-cased.
-pub fn next(label: &[u8], c: Cursor) -> Step
+pub fn next(label: &[u8], c: Cursor) -> Option<(u8, Cursor)>
     ensures { Spells label.now c result }
 {
-    let from = c.at;
-    let at = skip(label, from);
+    let at = skip(label, c.at);
     if label.len() <= at {
-        return Step::End;
+        return None;
     }
-    if and(c.begun, from < at) {
-        return Step::Byte(b' ', Cursor { at, begun: true });
+    if c.begun && c.at < at {
+        return Some((b' ', Cursor { at, begun: true }));
     }
-    Step::Byte(
+    Some((
         fold(label[at]),
         Cursor {
             at: at + 1,
             begun: true,
         },
-    )
+    ))
 }
 
 // Before a label's first byte.
@@ -107,27 +108,11 @@ pub fn start() -> Cursor
 }
 
 // Appends the identity of `value`.
-pub fn normalize_identifier(value: &[u8], out: &mut [u8], at: usize) -> usize
-    ensures { Filled out.old at (identity_of value.now) out.new result }
+pub fn normalize_identifier(value: &[u8], out: &mut Writer)
+    ensures { Writes (identity_of value.now) out.old out.new }
 {
-    let mut c = start();
-    let mut end = at;
-    loop {
-        let Step::Byte(b, d) = next(value, c) else {
-            return end;
-        };
-        end = lent::put(out, end, b);
-        c = d;
-    }
-}
-
-// Whether nothing is left at a cursor.
-fn ended(label: &[u8], c: Cursor) -> bool
-    ensures { result ≡ same [] (left_at label.now c) }
-{
-    match next(label, c) {
-        Step::Byte(_, _) => false,
-        Step::End => true,
+    for b in Identity::new(value) {
+        out.put(b);
     }
 }
 
@@ -135,19 +120,5 @@ fn ended(label: &[u8], c: Cursor) -> bool
 pub fn same_identity(a: &[u8], b: &[u8]) -> bool
     ensures { result ≡ same (identity_of a.now) (identity_of b.now) }
 {
-    let mut c = start();
-    let mut d = start();
-    loop {
-        let Step::Byte(x, e) = next(a, c) else {
-            return ended(b, d);
-        };
-        let Step::Byte(y, f) = next(b, d) else {
-            return false;
-        };
-        if x != y {
-            return false;
-        }
-        c = e;
-        d = f;
-    }
+    Identity::new(a).eq(Identity::new(b))
 }

@@ -1,19 +1,13 @@
 -- What the code of `normalize_uri` goes by where it moves runs: by their marks, and by a window of bytes that all stay. Assumes nothing.
-use mathlib.Core.Path.{◌≡◌, refl, sym, ap, ap₂, ◌∙◌}
-use mathlib.Core.Bool.{Bool, true, false, ◌&&◌}
-use mathlib.Core.Logic.{inl, inr}
-use mathlib.Core.List.{List, [], ◌∷◌, ◌++◌}
-use Prim.Native.Nat.{ℕ, zero, suc, ◌+◌, ◌-◌, ◌*◌, ◌/◌, ◌%◌, ◌^◌, ◌≤◌, ◌<◌}
-use native.Mathlib.Omega.{arith}
-use borrow.Author.Tests.{eqb-true}
-use lib.Dec.{eqb}
-use lib.ListN.{length, take, drop, get_or, length-drop}
-use lib.Seq.{drop-drop, take-take, take-add}
+use Rattle.std.proofs.Common.{◌≡◌, refl, sym, ap, ap₂, ◌∙◌, Bool, true, false, ◌&&◌, inl, inr, List, [], ◌∷◌, ◌++◌, ℕ, zero, suc, ◌+◌, ◌-◌, ◌*◌, ◌/◌, ◌%◌, ◌^◌, ◌≤◌, ◌<◌, arith, eqb-true, eqb, length, take, drop, get_or, length-drop, drop-drop, take-take, take-add}
+use Rattle.std.specs.Simd.{first_chunks}
 use Rattle.lent.specs.Bytes.{any, between}
-use Rattle.lent.specs.Fill.{Filled, zeros}
-use Rattle.lent.specs.Private.{Ahead}
-use Rattle.lent.proofs.Laws.{next, same, both, and_left, and_right, or_left, or_right}
-use Rattle.lent.proofs.Ahead.{ahead-end, ahead_more}
+use Rattle.lent.specs.Fill.{zeros}
+use Rattle.lent.specs.declared.Writer.{Writer}
+use Rattle.lent.specs.Writer.{Writes}
+use Rattle.lent.specs.Private.{WritesAhead}
+use Rattle.lent.proofs.Writing.{then, by, ahead-end, ahead_more}
+use Rattle.lent.proofs.Laws.{next, and_left, and_right, or_left, or_right}
 use Rattle.encode_byte.specs.declared.Escaping.{Escaping}
 use Rattle.encode.specs.Encode.{encode_of}
 use Rattle.url_byte.specs.Byte.{url_byte}
@@ -62,10 +56,10 @@ module _ (on : Escaping) (l : List ℕ) (i e w : ℕ) (p : e ≡ i + 8) (m : w �
   eight : take (e - i) (drop i l) ≡ take 8 (drop i l)
   eight = let k : e - i ≡ 8 = omega arith in rw k
 
-  pub eight-whole : {d f : List ℕ} {at r : ℕ} → w ≡ 0 → Ahead d at (take 8 (take (e - i) (drop i l))) (8 - 8) f r → Filled d at (encode_of on (part_of 8 (drop i l))) f r
+  pub eight-whole : {u v : Writer} → w ≡ 0 → WritesAhead (take 8 (take (e - i) (drop i l))) (8 - 8) u v → Writes (encode_of on (part_of 8 (drop i l))) u v
   eight-whole z a =
       let t : encode_of on (part_of 8 (drop i l)) ≡ take 8 (take (e - i) (drop i l)) = moved-part on 8 (drop i l) (run-whole (drop i l) w m z) ∙ sym (ap (take 8) eight ∙ take-take 8 8 (drop i l) (omega arith)) in
-      same t (ahead-end (8 - 8) refl a)
+      by t (ahead-end (8 - 8) refl a)
 
   module _ (k : ℕ) (q : k ≡ run_of w) where
     run : Run 8 (drop i l) w k
@@ -77,8 +71,8 @@ module _ (on : Escaping) (l : List ℕ) (i e w : ℕ) (p : e ≡ i + 8) (m : w �
         let a : e - from ≡ 8 - k = omega arith in
         rw (a, g) (run.rest ∙ rw drop-drop)
 
-    pub eight-run : {d g f : List ℕ} {at r n : ℕ} (from : ℕ) → from ≡ i + k → e ≤ length l → Ahead d at (take k (take (e - i) (drop i l))) (8 - k) g r
-        → Filled g r (encode_of on (part_of (e - from) (drop from l))) f n → Filled d at (encode_of on (part_of 8 (drop i l))) f n
+    pub eight-run : {u v w : Writer} (from : ℕ) → from ≡ i + k → e ≤ length l → WritesAhead (take k (take (e - i) (drop i l))) (8 - k) u v
+        → Writes (encode_of on (part_of (e - from) (drop from l))) v w → Writes (encode_of on (part_of 8 (drop i l))) u w
     eight-run from g h a x =
         let s = run.short in
         let b : e - from ≡ 8 - k = omega arith in
@@ -136,13 +130,11 @@ module _ (on : Escaping) (l : List ℕ) (i : ℕ) where
   pub halves : encode_of on (part_of 16 (drop i l)) ≡ encode_of on (part_of 8 (drop i l)) ++ encode_of on (part_of 8 (drop (i + 8) l))
   halves = part-two on 8 16 (drop i l) (omega arith) ∙ rw drop-drop
 
-  pub halves-put : {d g f : List ℕ} {at r n : ℕ} → Filled d at (encode_of on (part_of 8 (drop i l))) g r → Filled g r (encode_of on (part_of 8 (drop (i + 8) l))) f n
-      → Filled d at (encode_of on (part_of 16 (drop i l))) f n
-  halves-put p q = same halves (both p q)
+  pub halves-put : {u v w : Writer} → Writes (encode_of on (part_of 8 (drop i l))) u v → Writes (encode_of on (part_of 8 (drop (i + 8) l))) v w → Writes (encode_of on (part_of 16 (drop i l))) u w
+  halves-put p q = by halves (then p q)
 
-  pub tail-put : {d g f : List ℕ} {at r n : ℕ} → Filled d at (encode_of on (part_of 8 (drop i l))) g r → Filled g r (encode_of on (part_of (length l - (i + 8)) (drop (i + 8) l))) f n
-      → Filled d at (encode_of on (normalize_of (drop i l))) f n
-  tail-put p q = same (block_more on l i 8) (both p (same (block_last on l (i + 8)) q))
+  pub tail-put : {u v w : Writer} → Writes (encode_of on (part_of 8 (drop i l))) u v → Writes (encode_of on (part_of (length l - (i + 8)) (drop (i + 8) l))) v w → Writes (encode_of on (normalize_of (drop i l))) u w
+  tail-put p q = by (block_more on l i 8) (then p (by (block_last on l (i + 8)) q))
 
   pub halves-clear : (e v w : ℕ) → e ≡ i + 16 → v ≡ word_of (marks_of 8 (drop i l)) → w ≡ word_of (marks_of 8 (drop (i + 8) l)) → (eqb v 0 && eqb w 0) ≡ true
       → encode_of on (part_of 16 (drop i l)) ≡ take (e - i) (drop i l)
@@ -157,8 +149,12 @@ module _ (on : Escaping) (l : List ℕ) (i : ℕ) where
       joined : (s : List ℕ) → take 8 s ++ take 8 (drop 8 s) ≡ take 16 s
       joined s = sym (take-add 8 8 s)
 
-  pub block-low : (s : List ℕ) (w : ℕ) → s ≡ marks_of 16 (drop i l) → w ≡ word_of (take (8 - 0) (drop 0 s)) → w ≡ word_of (marks_of 8 (drop i l))
-  block-low s w p q = q ∙ rw p (ap word_of (marks-low (drop i l)))
+  -- sixteen marks, read as two words of eight
+  module _ (s : List ℕ) (eights : List (List ℕ)) (w : ℕ) (p : s ≡ marks_of 16 (drop i l)) (q : eights ≡ first_chunks 8 (length s / 8) s) where
+    pub block-low : w ≡ word_of (get_or eights 0 []) → w ≡ word_of (marks_of 8 (drop i l))
+    unfolding marks_of
+    block-low r = r ∙ rw (q, p) (ap word_of (marks-low (drop i l)))
 
-  pub block-high : (s : List ℕ) (w : ℕ) → s ≡ marks_of 16 (drop i l) → w ≡ word_of (take (16 - 8) (drop 8 s)) → w ≡ word_of (marks_of 8 (drop (i + 8) l))
-  block-high s w p q = q ∙ rw p (ap word_of (marks-high (drop i l)) ∙ rw drop-drop)
+    pub block-high : w ≡ word_of (get_or eights 1 []) → w ≡ word_of (marks_of 8 (drop (i + 8) l))
+    unfolding marks_of
+    block-high r = r ∙ rw (q, p) (ap word_of (marks-high (drop i l)) ∙ rw drop-drop)

@@ -1,11 +1,6 @@
 -- The visits of a URL that is UTF-8, character by character: with `none` these equations leave no other number. Assumes nothing.
-use mathlib.Core.Path.{◌≡◌, refl, ap}
-use mathlib.Core.Bool.{true, false}
-use mathlib.Core.List.{List, ◌∷◌, ◌++◌}
-use Prim.Native.Nat.{ℕ, zero, suc, ◌+◌, ◌-◌, ◌/◌, ◌≤◌, ◌<◌}
-use native.Mathlib.Omega.{arith}
-use borrow.Author.Tests.{le-leb, lt-leb, ne_eqb}
-use lib.Dec.{T}
+use Rattle.std.proofs.Common.{◌≡◌, refl, ap, true, false, List, ◌∷◌, ◌++◌, ℕ, zero, suc, ◌+◌, ◌-◌, ◌/◌, ◌≤◌, ◌<◌, arith, le-leb, ne_eqb, T}
+use borrow.Author.Tests.{lt-leb}
 use Rattle.lent.specs.Bytes.{bytes, is_alnum}
 use Rattle.utf8.specs.Utf8.{is_scalar, char_of, length_of}
 use Rattle.utf8.proofs.Table.{lead}

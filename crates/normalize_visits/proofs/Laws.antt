@@ -1,12 +1,5 @@
 -- What the code of `normalize_visits` goes by, and that there are at most as many visits as bytes. Assumes nothing.
-use mathlib.Core.Path.{◌≡◌, refl, ap, ◌∙◌}
-use mathlib.Core.Bool.{Bool, true, false}
-use mathlib.Core.List.{List, [], ◌∷◌}
-use Prim.Native.Nat.{ℕ, zero, suc, ◌+◌, ◌-◌, ◌≤◌, ◌<◌}
-use native.Mathlib.Omega.{arith}
-use borrow.Author.Tests.{ne_eqb}
-use lib.ListN.{length, drop, get_or, drop_of_length-le}
-use lib.Seq.{drop-drop}
+use Rattle.std.proofs.Common.{◌≡◌, refl, ap, ◌∙◌, Bool, true, false, List, [], ◌∷◌, ℕ, zero, suc, ◌+◌, ◌-◌, ◌≤◌, ◌<◌, arith, ne_eqb, length, drop, take, get_or, length-drop, drop_of_length-le, drop-drop, take_all}
 use Rattle.lent.proofs.Laws.{next}
 use Rattle.utf8.specs.Utf8.{length_of}
 use Rattle.url_byte.specs.Byte.{two_alnum}
@@ -63,22 +56,21 @@ ended url i k h q = let y : visits_of (drop i url) ≡ 0 = rw (drop_of_length-le
 -- ---- what a visit passes
 
 module _ (url : List ℕ) (i : ℕ) (h : i < length url) where
-  module _ (p : get_or url i 0 ≡ 37) (x : Bool) (q : x ≡ two_alnum (drop (i + 1) url)) where
+  rest : take (length url - (i + 1)) (drop (i + 1) url) ≡ drop (i + 1) url
+  rest = take_all (length url - (i + 1)) (drop (i + 1) url) (rw length-drop (omega arith))
+
+  module _ (p : get_or url i 0 ≡ 37) (x : Bool) (q : x ≡ two_alnum (take (length url - (i + 1)) (drop (i + 1) url))) where
+    two : x ≡ two_alnum (drop (i + 1) url)
+    two = rw rest at q
+
     pub of-triple : x ≡ true → 2 ≡ behind_of (drop i url)
     unfolding behind_of
-    of-triple r = rw (next url i h, p, ← q, r)
+    of-triple r = rw (next url i h, p, ← two, r)
 
     pub of-percent : x ≡ false → 0 ≡ behind_of (drop i url)
     unfolding behind_of length_of
-    of-percent r = rw (next url i h, p, ← q, r)
+    of-percent r = rw (next url i h, p, ← two, r)
 
-  module _ (p : get_or url i 0 ≡ 37 → ⊥) (n : ℕ) (q : n ≡ length_of (get_or url i 0)) where
-    other : n - 1 ≡ behind_of (drop i url)
-    unfolding behind_of
-    other = rw (next url i h, ne_eqb (get_or url i 0) 37 p, ← q)
-
-    pub of-first : 2 ≤ n → n - 1 ≡ behind_of (drop i url)
-    of-first r = other
-
-    pub of_other : n < 2 → 0 ≡ behind_of (drop i url)
-    of_other r = let z : 0 ≡ n - 1 = omega arith in z ∙ other
+  pub of-other : (get_or url i 0 ≡ 37 → ⊥) → (n k : ℕ) → n ≡ length_of (get_or url i 0) → k ≡ n - 1 → k ≡ behind_of (drop i url)
+  unfolding behind_of
+  of-other p n k q f = f ∙ rw (next url i h, ne_eqb (get_or url i 0) 37 p, ← q)

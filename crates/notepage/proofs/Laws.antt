@@ -1,54 +1,27 @@
 -- What came of the input is inside the buffers, and is what the joined bytes say. Assumes nothing.
-use mathlib.Core.Path.{◌≡◌, refl, sym, ap, subst, ◌∙◌}
-use mathlib.Core.Bool.{true}
-use mathlib.Core.List.{List, [], ◌∷◌, ◌++◌}
-use Prim.Native.Nat.{ℕ, ◌-◌, ◌≤◌}
-use native.Mathlib.Omega.{arith}
-use lib.ListN.{length, take, drop, length-append}
-use lib.Seq.{take_at}
+use Rattle.std.proofs.Common.{◌≡◌, refl, sym, ap, subst, ◌∙◌, true, List, [], ◌∷◌, ◌++◌, ℕ, ◌-◌, ◌≤◌, arith, length, take, drop, length-append, take_at, Ok, Err}
 use Rattle.lent.specs.Fill.{zeros}
 use Rattle.bundle_block.specs.declared.Refusal.{Refusal}
 use Rattle.machine.specs.declared.Options.{Options}
-use Rattle.bundle_read.specs.declared.Answer.{Answer}
-use Rattle.bundle_read.specs.declared.Answer.TheVariants.{Bundle, Refused}
+use Rattle.std.specs.Prelude as O
+use Rattle.bundle_read.specs.declared.Contents.{Contents}
+use Rattle.bundle_read.specs.Read.{Answer}
 use Rattle.bundle_read.specs.Bundle.{Meaning, says, refused}
 use Rattle.bundle_read.specs.Read as R
-use Rattle.bundle_parts.specs.declared.Progress.{Progress}
-use Rattle.bundle_parts.specs.declared.Progress.TheVariants.{More, Done}
 use Rattle.bundle_parts.specs.declared.Reader.{Reader}
-use Rattle.bundle_parts.specs.Feed.{stand_of, start_of, feed_of, end_of}
+use Rattle.bundle_parts.specs.Feed.{Progress, stand_of, start_of, feed_of, end_of}
 use Rattle.bundle_parts.specs.Late.{call_late}
 use Rattle.bundle_parts.specs.Parts.{joined, fed_of, HasReadLate}
 use Rattle.bundle_parts.proofs.Joined.{fed-snoc}
 use Rattle.bundle_parts.proofs.Parts.{ended}
-use Rattle.call_build_answer.specs.declared.Built.{Built}
-use Rattle.call_build_answer.specs.declared.Built.TheVariants as B
+use Rattle.call_build_answer.specs.Built.{Built}
 use Rattle.call_build.specs.Build.{Builds}
-use Rattle.event.specs.declared.EventIndex.{EventIndex}
-use Rattle.check_list.specs.declared.Checked.{Checked}
-use Rattle.check_list.specs.Checked as C
-use Rattle.notepage.specs.declared.Shown.{Shown}
-use Rattle.notepage.specs.declared.Shown.TheVariants as S
+use Rattle.notepage.specs.declared.NoPage.TheVariants as S
 use Rattle.notepage.specs.declared.Turn.{Turn}
 use Rattle.notepage.specs.declared.Input.{Input}
 use Rattle.notepage.specs.declared.Input.TheVariants.{Again, Some, End, Failed}
 use Rattle.notepage.specs.Came.{Came, CameMore, Stayed, TurnedBy, Turned, CameBy, CameTo, no_bytes}
-use Rattle.notepage.specs.Shows.{off_of, shown_of, ShowsNote, ShowsOf, Shows, read, unread, ShowsEnd}
-
--- ---- each answer of the build
-
-module _ (b : Built) where
-  pub page-shown : (n : ℕ) → b ≡ B.Page n → S.Page n ≡ shown_of b
-  page-shown n p = rw p
-
-  pub refused-shown : {c : Checked} {x y : ℕ} → b ≡ B.Refused c → x ≡ C.number_of c → y ≡ C.place_of c → S.Refused x y ≡ shown_of b
-  refused-shown p q k = rw (p, q, k)
-
-  pub work-shown : (i : EventIndex) → b ≡ B.WorkFull i → S.Refused 8 i.0 ≡ shown_of b
-  work-shown i p = rw p
-
-  pub room-shown : (i : EventIndex) → b ≡ B.PageFull i → S.Refused 9 i.0 ≡ shown_of b
-  room-shown i p = rw p
+use Rattle.notepage.specs.Shows.{Shown, off_of, shown_of, ShowsNote, ShowsOf, Shows, read, unread, ShowsEnd}
 
 -- the note stands in the first bytes of two buffers
 pub note-shown : (text events : List ℕ) (n m : ℕ) {out work out' work' : List ℕ} {o : Options} {b : Built} {s : Shown} → o ≡ off_of
@@ -95,7 +68,7 @@ turned_none r t e Again p = record { reader = refl; text = refl; events = refl }
 turned_none r t e End p = record { reader = refl; text = refl; events = refl }
 turned_none r t e Failed p = record { reader = refl; text = refl; events = refl }
 
-pub shown-unread : {t e out work out' : List ℕ} → Shows t e out work out' S.Unread
+pub shown-unread : {t e out work out' : List ℕ} → Shows t e out work out' (Err S.Unread)
 shown-unread = unread refl
 
 pub shown_read : (t e t' e' : List ℕ) (turn : Turn) {out work out' : List ℕ} {s : Shown} → CameTo t e t' e' turn → turn.input ≡ End → ShowsEnd turn.reader t' e' out work out' s → Shows t e out work out' s
@@ -105,15 +78,15 @@ shown_read t e t' e' turn p q h =
 
 -- ---- the bundle's parts, in the buffers
 
-module _ (n m edition : ℕ) where
-  at : (t e : ℕ) {u f : List ℕ} {r : Answer} (x : Meaning) → r ≡ R.answer_of x → u ≡ R.text_bytes x t → f ≡ R.event_bytes x e → r ≡ Bundle n m edition
-      → (n ≤ length u) × (m ≤ length f) × (x ≡ says (take n u) (take m f) edition)
+module _ (c : Contents) where
+  at : (t e : ℕ) {u f : List ℕ} {r : Answer} (x : Meaning) → r ≡ R.answer_of x → u ≡ R.text_bytes x t → f ≡ R.event_bytes x e → r ≡ O.Ok c
+      → (c.text ≤ length u) × (c.events ≤ length f) × (x ≡ says (take c.text u) (take c.events f) c.edition)
   at t e {u} {f} (says text events ed) p q k g =
-      let a : length text ≡ n = cc in
-      let b : length events ≡ m = cc in
-      let d : ed ≡ edition = cc in
-      let i : take n u ≡ text = ap (take n) q ∙ take_at text (zeros (t - length text)) n a in
-      let j : take m f ≡ events = ap (take m) k ∙ take_at events (zeros (e - length events)) m b in
+      let a : length text ≡ c.text = ap R.value_of (sym p ∙ g) in
+      let b : length events ≡ c.events = ap R.events_of (sym p ∙ g) in
+      let d : ed ≡ c.edition = ap R.edition_of (sym p ∙ g) in
+      let i : take c.text u ≡ text = ap (take c.text) q ∙ take_at text (zeros (t - length text)) c.text a in
+      let j : take c.events f ≡ events = ap (take c.events) k ∙ take_at events (zeros (e - length events)) c.events b in
       (omega (arith, a, simp length-append at (ap length q)), omega (arith, b, simp length-append at (ap length k)), rw (i, j, d))
   at t e (refused x) p q k g = let z : ◌≡◌ {A = ℕ} 0 1 = cc in absurd (omega arith)
 
@@ -122,26 +95,26 @@ module _ (r r' : Reader) (t e t' e' : List ℕ) {q : Progress} (h : stand_of r' 
   late : (t₀ e₀ : List ℕ) (parts : List (List ℕ)) → stand_of r t e ≡ fed_of (start_of t₀ e₀) parts → HasReadLate (joined parts) t₀ e₀ (stand_of r' t' e')
   late t₀ e₀ parts p = rw (h, p) (ended t₀ e₀ parts)
 
-  done : (t₀ e₀ : List ℕ) (parts : List (List ℕ)) → stand_of r t e ≡ fed_of (start_of t₀ e₀) parts → q ≡ Done (R.answer_of (call_late (joined parts) (length t₀) (length e₀)))
+  done : (t₀ e₀ : List ℕ) (parts : List (List ℕ)) → stand_of r t e ≡ fed_of (start_of t₀ e₀) parts → q ≡ O.Some (R.answer_of (call_late (joined parts) (length t₀) (length e₀)))
   done t₀ e₀ parts p = s ∙ (late t₀ e₀ parts p).answer
 
-  pub end_more : {out work out' : List ℕ} {x : Shown} → q ≡ More → ShowsEnd r t e out work out' x
+  pub end_more : {out work out' : List ℕ} {x : Shown} → q ≡ O.None → ShowsEnd r t e out work out' x
   end_more g = record { shows = λ t₀ e₀ parts p. let d = done t₀ e₀ parts p in let z : ◌≡◌ {A = ℕ} 0 1 = cc in absurd (omega arith) }
 
-  module _ {a : Answer} (g : q ≡ Done a) where
-    pub end_refused : {out work out' : List ℕ} {x y : ℕ} (c : Refusal) → a ≡ Refused c → x ≡ R.number_of a → y ≡ R.value_of a → ShowsEnd r t e out work out' (S.Refused x y)
+  module _ {a : Answer} (g : q ≡ O.Some a) where
+    pub end_refused : {out work out' : List ℕ} {x y : ℕ} (c : Refusal) → a ≡ O.Err c → x ≡ R.number_of a → y ≡ R.value_of a → ShowsEnd r t e out work out' (Err (S.Refused x y))
     end_refused {out} {work} {out'} {x} {y} c k i j =
         record { shows = λ t₀ e₀ parts p. on (call_late (joined parts) (length t₀) (length e₀)) (cc (done t₀ e₀ parts p)) }
       where
-        on : (z : Meaning) → a ≡ R.answer_of z → ShowsOf z out work out' (S.Refused x y)
+        on : (z : Meaning) → a ≡ R.answer_of z → ShowsOf z out work out' (Err (S.Refused x y))
         on (says text events edition) b = let z : ◌≡◌ {A = ℕ} 0 1 = cc in absurd (omega arith)
         on (refused c) b = rw (i, j, b)
 
-    pub end_read : {out work out' : List ℕ} {x : Shown} (n m edition : ℕ) → a ≡ Bundle n m edition → (n ≤ length t' → m ≤ length e' → ShowsNote (take n t') (take m e') out work out' x) → ShowsEnd r t e out work out' x
-    end_read {out} {work} {out'} {x} n m edition k f = record { shows = λ t₀ e₀ parts p. on t₀ e₀ parts (late t₀ e₀ parts p) (cc (done t₀ e₀ parts p)) }
+    pub end_read : {out work out' : List ℕ} {x : Shown} (c : Contents) → a ≡ O.Ok c → (c.text ≤ length t' → c.events ≤ length e' → ShowsNote (take c.text t') (take c.events e') out work out' x) → ShowsEnd r t e out work out' x
+    end_read {out} {work} {out'} {x} c k f = record { shows = λ t₀ e₀ parts p. on t₀ e₀ parts (late t₀ e₀ parts p) (cc (done t₀ e₀ parts p)) }
       where
         on : (t₀ e₀ : List ℕ) (parts : List (List ℕ)) → HasReadLate (joined parts) t₀ e₀ (stand_of r' t' e') → a ≡ R.answer_of (call_late (joined parts) (length t₀) (length e₀))
             → ShowsOf (call_late (joined parts) (length t₀) (length e₀)) out work out' x
         on t₀ e₀ parts l b =
-            let w = at n m edition (length t₀) (length e₀) (call_late (joined parts) (length t₀) (length e₀)) b l.text l.events k in
+            let w = at c (length t₀) (length e₀) (call_late (joined parts) (length t₀) (length e₀)) b l.text l.events k in
             subst (λ (y : Meaning). ShowsOf y out work out' x) (sym w.2) (f w.0 w.1)

@@ -1,5 +1,5 @@
 -- What the program shows of the bundle that its input brings: the page of its note with all options off, or the first refusal. Assumes nothing.
-use Rattle.std.specs.Prelude.{◌≡◌, false, List, ℕ, length}
+use Rattle.std.specs.Prelude.{◌≡◌, false, List, ℕ, length, Result, Ok, Err}
 use Rattle.machine.specs.declared.Options.{Options}
 use Rattle.machine.specs.declared.Ending.TheVariants.{Lf}
 use Rattle.character_reference.specs.declared.Names.TheVariants.{Html5}
@@ -9,21 +9,21 @@ use Rattle.bundle_parts.specs.declared.Reader.{Reader}
 use Rattle.bundle_parts.specs.Feed.{stand_of, start_of}
 use Rattle.bundle_parts.specs.Late.{call_late}
 use Rattle.bundle_parts.specs.Parts.{joined, fed_of}
-use Rattle.call_build_answer.specs.declared.Built.{Built}
-use Rattle.call_build_answer.specs.declared.Built.TheVariants as B
-use Rattle.call_build_answer.specs.Built.{number_of, value_of}
+use Rattle.call_build_answer.specs.Built.{Built, number_of, value_of}
 use Rattle.call_build.specs.Build.{Ends}
-use Rattle.notepage.specs.declared.Shown.{Shown}
-use Rattle.notepage.specs.declared.Shown.TheVariants.{Page, Refused, Unread}
+use Rattle.notepage.specs.declared.NoPage.{NoPage}
+use Rattle.notepage.specs.declared.NoPage.TheVariants.{Refused, Unread}
+
+-- the length of a page, or why there is none
+abbrev pub Shown : Type 0
+Shown = Result ℕ NoPage
 
 abbrev pub off_of : Options
 off_of = record { allow_dangerous_html = false; allow_dangerous_protocol = false; allow_any_img_src = false; escape_apostrophes = false; ending = Lf; names = Html5 }
 
 abbrev pub shown_of : Built → Shown
-shown_of (B.Page n) = Page n
-shown_of (B.Refused c) = Refused (number_of (B.Refused c)) (value_of (B.Refused c))
-shown_of (B.WorkFull i) = Refused (number_of (B.WorkFull i)) (value_of (B.WorkFull i))
-shown_of (B.PageFull i) = Refused (number_of (B.PageFull i)) (value_of (B.PageFull i))
+shown_of (Ok n) = Ok n
+shown_of (Err r) = Err (Refused (number_of (Err r)) (value_of (Err r)))
 
 -- the note is built; s is what the program shows, and out' what the output holds then
 pub record ShowsNote (text events out work out' : List ℕ) (s : Shown) : Type 0 where
@@ -33,7 +33,7 @@ pub record ShowsNote (text events out work out' : List ℕ) (s : Shown) : Type 0
 
 -- where the bundle is refused, that is shown
 abbrev pub ShowsOf : Meaning → (out work out' : List ℕ) → Shown → Type 0
-ShowsOf (refused r) out work out' s = s ≡ Refused (R.refusal_number r) (R.refusal_place r)
+ShowsOf (refused r) out work out' s = s ≡ Err (Refused (R.refusal_number r) (R.refusal_place r))
 ShowsOf (says text events edition) out work out' s = ShowsNote text events out work out' s
 
 -- the promise once the input has ended: where the reader and the buffers stand as some parts led them, what is shown is that of the joined parts
@@ -44,4 +44,4 @@ pub record ShowsEnd (r : Reader) (t e out work out' : List ℕ) (s : Shown) : Ty
 -- these parts are the input's is not said here: it is run
 pub data Shows (t e out work out' : List ℕ) (s : Shown) : Type 0 where
   read : (parts : List (List ℕ)) → ShowsOf (call_late (joined parts) (length t) (length e)) out work out' s → Shows t e out work out' s
-  unread : s ≡ Unread → Shows t e out work out' s
+  unread : s ≡ Err Unread → Shows t e out work out' s

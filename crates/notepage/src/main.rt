@@ -5,9 +5,9 @@ ghost use Rattle.std.specs.Prelude.{◌≤◌, true, ◌≡◌, length, take};
 ghost use Rattle.notepage.specs.Came.{CameTo, Turned, no_bytes};
 ghost use Rattle.notepage.specs.Shows.{Shows, ShowsEnd, ShowsNote, off_of, shown_of};
 
-use bundle_parts::{Progress, Reader};
-use bundle_read::{Answer, LEAST_ROOM};
-use call_build_answer::{Built, LEAST_WORK};
+use bundle_parts::Reader;
+use bundle_read::LEAST_ROOM;
+use call_build_answer::{LEAST_WORK, Refusal};
 use character_reference::Names;
 use machine::{Ending, Options};
 use std::alloc::{AllocError, Global};
@@ -15,7 +15,7 @@ use std::io::{ErrorKind, Read};
 use std::process::ExitCode;
 use std::rt::Clock;
 use std::time::Duration;
-use std::{io, thread};
+use std::{fmt, io, thread};
 
 // The most bytes of a page that it writes.
 const PAGE_ROOM: usize = 65536;
@@ -26,15 +26,24 @@ const READ_ROOM: usize = 65536;
 // How long it waits where the input has nothing yet.
 const MILLISECONDS: u64 = 1;
 
-// The length of a page, or a refusal's number and place; or nothing, where the input could not be read.
+// Why there is no page: a refusal, by its number and place; or the input could not be read.
 #[derive(Clone, Copy)]
-pub enum Shown {
-    Page(usize),
+pub enum NoPage {
     Refused(u32, usize),
     Unread,
 }
 
+impl fmt::Display for NoPage {
+    fn fmt<W: fmt::Write>(&self, f: &mut fmt::Formatter<W>) -> fmt::Result {
+        match self {
+            NoPage::Refused(number, place) => write!(f, "refused {number} at {place}"),
+            NoPage::Unread => write!(f, "standard input can't be read"),
+        }
+    }
+}
+
 // What a read of the input comes to: it is to be tried again, bytes came, the input has ended, or it can't be read.
+// Stays our own enum: it has four answers.
 #[derive(Clone, Copy)]
 pub enum Input {
     Again,
@@ -68,13 +77,13 @@ fn page_of_input(
     events: &mut [u8],
     out: &mut [u8],
     work: &mut [u8],
-) -> Shown
+) -> Result<usize, NoPage>
     ensures { Shows text.old events.old out.old work.old out.new result }
 {
     let turn = read_all(rt, input, text, events);
     let last = turn.input;
     let Input::End = last else {
-        return Shown::Unread;
+        return Err(NoPage::Unread);
     };
     let reader = turn.reader;
     page_of(reader, text, events, out, work)
@@ -157,21 +166,17 @@ fn page_of(
     events: &mut [u8],
     out: &mut [u8],
     work: &mut [u8],
-) -> Shown
+) -> Result<usize, NoPage>
     ensures { ShowsEnd reader text.old events.old out.old work.old out.new result }
 {
     let ended = page::end_bundle(reader, text, events);
     let so_far = page::bundle_so_far(ended);
-    let Progress::Done(read) = so_far else {
-        return Shown::Unread;
+    let Some(read) = so_far else {
+        return Err(NoPage::Unread);
     };
     match read {
-        Answer::Refused(_) => Shown::Refused(bundle_read::number(read), bundle_read::value(read)),
-        Answer::Bundle {
-            text: n,
-            events: m,
-            edition: _,
-        } => build_read(text, n, events, m, out, work),
+        Err(_) => Err(NoPage::Refused(bundle_read::number(read), bundle_read::value(read))),
+        Ok(contents) => build_read(text, contents.text, events, contents.events, out, work),
     }
 }
 
@@ -183,14 +188,14 @@ fn build_read(
     m: usize,
     out: &mut [u8],
     work: &mut [u8],
-) -> Shown
+) -> Result<usize, NoPage>
     ensures { n ≤ length text.now → m ≤ length events.now → ShowsNote (take n text.now) (take m events.now) out.old work.old out.new result }
 {
     if text.len() < n {
-        return Shown::Unread;
+        return Err(NoPage::Unread);
     }
     if events.len() < m {
-        return Shown::Unread;
+        return Err(NoPage::Unread);
     }
     build_parts(text, n, events, m, out, work)
 }
@@ -203,7 +208,7 @@ fn build_parts(
     m: usize,
     out: &mut [u8],
     work: &mut [u8],
-) -> Shown
+) -> Result<usize, NoPage>
     requires { (n ≤ length text.now) × (m ≤ length events.now) }
     ensures { ShowsNote (take n text.now) (take m events.now) out.old work.old out.new result }
 {
@@ -225,23 +230,25 @@ fn off() -> Options
     }
 }
 
-fn shown_of(b: Built) -> Shown
+fn shown_of(b: Result<usize, Refusal>) -> Result<usize, NoPage>
     ensures { result ≡ shown_of b }
 {
     match b {
-        Built::Page(n) => Shown::Page(n),
-        Built::Refused(c) => Shown::Refused(check_list::number(c), check_list::place(c)),
-        Built::WorkFull(i) => Shown::Refused(8, i.0),
-        Built::PageFull(i) => Shown::Refused(9, i.0),
+        Ok(n) => Ok(n),
+        Err(refusal) => Err(NoPage::Refused(refusal.number(), refusal.place())),
     }
 }
 
 // Whether the page or the refusal could be told: only then the program ends with 0.
-fn show(rt: &(impl Print + Eprint + AllocGlobal), s: Shown, out: &[u8]) -> ExitCode {
-    match s {
-        Shown::Unread => ExitCode::FAILURE,
-        Shown::Refused(number, place) => told(rt, println!(rt; "refused {number} at {place}")),
-        Shown::Page(n) => {
+fn show(
+    rt: &(impl Print + Eprint + AllocGlobal),
+    shown: Result<usize, NoPage>,
+    out: &[u8],
+) -> ExitCode {
+    match shown {
+        Err(NoPage::Unread) => ExitCode::FAILURE,
+        Err(refused) => told(rt, println!(rt; "{refused}")),
+        Ok(n) => {
             if out.len() < n {
                 return ExitCode::FAILURE;
             }

@@ -123,11 +123,11 @@ after_one {t} {b} {u} k x m =
     let j : f.0.table.column ≡ suc s.table.column = rw (e, y.table) in
     record { state = f.0; rel = x.adds t b s f.0 a m.rel f.1; aligns = m.aligns; aligns-are = i; left_is = omega arith; rest = f.2 }
 
-pub one_less : {c r q : Context} {w o w' o' w'' o'' : List ℕ} {left : ℕ} → Left c w o r w' o' left → 0 < left → AddsCell r w' o' q w'' o'' → Left c w o q w'' o'' (left - 1)
-one_less {left = left} k h x = record {
+pub one_less : {c r q : Context} {w o w' o' w'' o'' : List ℕ} {left less : ℕ} → Left c w o r w' o' left → left ≡ suc less → AddsCell r w' o' q w'' o'' → Left c w o q w'' o'' less
+one_less {left = left} {less = less} k h x = record {
   midway = λ t b s u y p.
-      let e : left ≡ suc (left - 1) = omega arith in
-      after_one (left - 1) x (rw e at (k.midway t b s u y p));
+      let e : left ≡ suc less = omega arith in
+      after_one less x (rw e at (k.midway t b s u y p));
 }
 
 pub none_left : {c r : Context} {w o w' o' : List ℕ} {left : ℕ} → Left c w o r w' o' left → left ≤ 0 → Keeps Any (missing_cells phantom_cell) c w o r w' o'

@@ -103,10 +103,9 @@ fn push_missing_cells(c: Context, captures: &mut [u8], out: &mut [u8]) -> Contex
     ensures { Keeps Any (missing_cells phantom_cell) c captures.old out.old result captures.new out.new }
 {
     let mut r = c;
-    let mut left = on_table::missing(c);
-    while 0 < left {
+    let missing = on_table::missing(c);
+    for _ in 0..missing {
         r = push_phantom_cell(r, captures, out);
-        left -= 1;
     }
     r
 }

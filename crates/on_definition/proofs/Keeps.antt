@@ -1,11 +1,7 @@
 -- The code keeps the definition that the machine keeps. Assumes nothing.
-use mathlib.Core.Path.{◌≡◌, refl, sym, ap, ◌∙◌}
-use mathlib.Core.Bool.{true}
-use mathlib.Core.List.{List, ◌∷◌}
-use mathlib.Core.Option.{Option, none, some}
-use Prim.Native.Nat.{ℕ, min, ◌+◌, ◌≤◌, ◌<◌}
-use native.Mathlib.Omega.{arith}
-use lib.ListN.{length, take}
+use Rattle.std.proofs.Common.{Some, None, ◌≡◌, refl, sym, ap, ◌∙◌, true, List, ◌∷◌, ℕ, min, ◌+◌, ◌≤◌, ◌<◌, arith, length, take}
+use Rattle.std.specs.Prelude.{Option as CodeOption}
+use Rattle.std.proofs.Math.Option.{Option, none, some}
 use Rattle.regions.specs.Sizes.{region_size, held_at, kept_at}
 use Rattle.machine.specs.State as State
 use Rattle.machine.specs.State.{State}
@@ -24,8 +20,6 @@ use Rattle.state_context.specs.Rel.{Ends}
 use Rattle.state_media.specs.declared.Links.{Links}
 use Rattle.state_media.specs.declared.Piece as Links
 use Rattle.state_media.specs.declared.Span.{Span}
-use Rattle.state_media.specs.declared.Label.{Label}
-use Rattle.state_media.specs.declared.Label.TheVariants as L
 use Rattle.state_media.specs.Links.{Linked, Closes, span_is, label_of}
 use Rattle.state_kept.specs.declared.Kept.{Kept}
 use Rattle.state_kept.specs.Kept.{Piece, InTables}
@@ -89,13 +83,13 @@ below-kept = omega arith
 
 -- ---- the code
 
-unset : {X : Type 0} {l : Label} {o : Option State.Span} {p : State.Span} → label_of l ≡ o → l ≡ L.Unset → o ≡ some p → X
+unset : {X : Type 0} {l : CodeOption Span} {o : Option State.Span} {p : State.Span} → label_of l ≡ o → l ≡ None → o ≡ some p → X
 unset k e q = let k' = rw e at k in let z : ◌≡◌ {A = ℕ} 0 1 = cc in absurd (omega arith)
 
-span_same : {l : Label} {o : Option State.Span} {q : State.Span} {p : Span} → label_of l ≡ o → l ≡ L.Is p → o ≡ some q → q ≡ span_is p
+span_same : {l : CodeOption Span} {o : Option State.Span} {q : State.Span} {p : Span} → label_of l ≡ o → l ≡ Some p → o ≡ some q → q ≡ span_is p
 span_same k e i = let k' = rw e at k in (cc)
 
-pub not-labelled : {b : Whole} {text work definitions : List ℕ} → b.links.media.reference_id ≡ L.Unset → KeepsNewest b text work definitions b work definitions
+pub not-labelled : {b : Whole} {text work definitions : List ℕ} → b.links.media.reference_id ≡ None → KeepsNewest b text work definitions b work definitions
 unfolding within exec
 not-labelled e = record {
   keeps = λ w i j. record {
@@ -140,7 +134,7 @@ keeps-at {p} {b} {text} {work} {definitions} {work'} {definitions'} {k} {l} c cl
   };
 }
 
-pub keeps-labelled : {p : Span} {b r : Whole} {text work definitions work' definitions' : List ℕ} → b.links.media.reference_id ≡ L.Is p → KeepsAt p b text work definitions r work' definitions' → KeepsNewest b text work definitions r work' definitions'
+pub keeps-labelled : {p : Span} {b r : Whole} {text work definitions work' definitions' : List ℕ} → b.links.media.reference_id ≡ Some p → KeepsAt p b text work definitions r work' definitions' → KeepsNewest b text work definitions r work' definitions'
 keeps-labelled e k = k.keeps e
 
 -- the capture goes first

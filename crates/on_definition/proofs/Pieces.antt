@@ -1,10 +1,7 @@
 -- The pieces of a definition among the held bytes, and what the code makes of them. Assumes nothing.
-use mathlib.Core.Path.{◌≡◌, refl, sym, ap, ◌∙◌}
-use mathlib.Core.List.{List, []}
-use mathlib.Core.Option.{Option, none, some}
-use Prim.Native.Nat.{ℕ, suc, min, ◌+◌}
-use native.Mathlib.Omega.{arith}
-use lib.ListN.{length}
+use Rattle.std.proofs.Common.{Some, None, ◌≡◌, refl, sym, ap, ◌∙◌, List, [], ℕ, suc, min, ◌+◌, arith, length}
+use Rattle.std.specs.Prelude.{Option as CodeOption}
+use Rattle.std.proofs.Math.Option.{Option, none, some}
 use Rattle.regions.specs.Sizes.{region_size, held_at, kept_at}
 use Rattle.machine.specs.State as State
 use Rattle.machine.specs.State.{State, no_destination, own, defined}
@@ -13,31 +10,18 @@ use Rattle.regions.specs.Regions.{region_at}
 use Rattle.state_media.specs.declared.Links.{Links}
 use Rattle.state_media.specs.declared.Piece as Links
 use Rattle.state_media.specs.declared.Span.{Span}
-use Rattle.state_media.specs.declared.Text.{Text}
-use Rattle.state_media.specs.declared.Text.TheVariants as T
-use Rattle.state_media.specs.declared.Label.{Label}
-use Rattle.state_media.specs.declared.Label.TheVariants as L
 use Rattle.state_media.specs.declared.Destination.{Destination}
 use Rattle.state_media.specs.declared.Destination.TheVariants as D
 use Rattle.state_media.specs.Links.{DestinationIs, TextIs}
 use Rattle.state_kept.specs.Kept.{Piece, Optional, or_empty}
 use Rattle.state_whole.proofs.Shown.{part-of-region}
-use Rattle.on_definition.specs.Private.{or_else, own_piece, text_piece, word_of}
+use Rattle.on_definition.specs.Private.{own_piece, text_piece, word_of}
 
 pub piece-nowhere : {d : Destination} → d ≡ D.Nowhere → record { place = 0; length = 0 } ≡ own_piece d
 piece-nowhere e = rw e
 
 pub piece-defined : {d : Destination} {k : ℕ} → d ≡ D.Defined k → record { place = 0; length = 0 } ≡ own_piece d
 piece-defined e = rw e
-
-pub piece-unset : {t : Text} → t ≡ T.Unset → record { place = 0; length = 0 } ≡ text_piece t
-piece-unset e = rw e
-
-pub word-is : {t : Text} {p : Links.Piece} {n : ℕ} → t ≡ T.Is p → n ≡ min p.length region_size → n + 1 ≡ word_of t
-word-is {n = n} e i = let z : n + 1 ≡ suc n = omega arith in rw e (z ∙ ap suc i)
-
-pub sought-is : (x y : Label) {p : Span} → x ≡ L.Is p → L.Is p ≡ or_else x y
-sought-is x y e = rw e
 
 no-piece : (work : List ℕ) → Piece work kept_at (region_size + min 0 region_size) 0 []
 no-piece work = record { long = refl; below = omega arith; bytes = refl }
@@ -56,11 +40,11 @@ destination-piece work end (D.Defined i) no_destination k = absurd k
 destination-piece work end (D.Defined i) (own c) k = absurd k
 destination-piece work end (D.Defined i) (defined n) k = no-piece work
 
-pub title-piece : (work : List ℕ) (end : ℕ) (t : Text) (o : Option (List ℕ)) → TextIs (region_at held_at work) end t o → Optional work kept_at (region_size + min (text_piece t).place region_size) (word_of t) o
-title-piece work end T.Unset none k = tt
-title-piece work end T.Unset (some c) k = absurd k
-title-piece work end (T.Is p) none k = absurd k
-title-piece work end (T.Is p) (some c) k =
+pub title-piece : (work : List ℕ) (end : ℕ) (t : CodeOption Links.Piece) (o : Option (List ℕ)) → TextIs (region_at held_at work) end t o → Optional work kept_at (region_size + min (text_piece t).place region_size) (word_of t) o
+title-piece work end None none k = tt
+title-piece work end None (some c) k = absurd k
+title-piece work end (Some p) none k = absurd k
+title-piece work end (Some p) (some c) k =
     let i = k.inside in
     let l = k.long in
     let e : min p.place region_size ≡ p.place = omega arith in

@@ -1,13 +1,10 @@
 -- The code finds the definition that the machine seeks. Assumes nothing.
-use mathlib.Core.Path.{◌≡◌, refl, sym, ap, ◌∙◌}
-use mathlib.Core.List.{List, ◌∷◌}
-use mathlib.Core.Option.{Option, none, some}
-use Prim.Native.Nat.{ℕ, ◌≤◌}
-use native.Mathlib.Omega.{arith}
+use Rattle.std.specs.Option.{option_or}
+use Rattle.std.proofs.Common.{Some, None, ◌≡◌, refl, sym, ap, ◌∙◌, List, ◌∷◌, ℕ, ◌≤◌, arith}
+use Rattle.std.specs.Prelude.{Option as CodeOption}
+use Rattle.std.proofs.Math.Option.{Option, none, some}
 use Rattle.regions.specs.Sizes.{held_at}
-use Rattle.normalize_identifier.specs.declared.Found.{Found}
-use Rattle.normalize_identifier.specs.declared.Found.TheVariants.{At, Nothing}
-use Rattle.normalize_identifier.specs.Search.{first_same}
+use Rattle.normalize_identifier.specs.Search.{Found, first_same}
 use Rattle.machine.specs.State as State
 use Rattle.machine.specs.State.{State, no_destination, defined}
 use Rattle.machine.specs.Outcome.{go, ◌>>=◌}
@@ -20,8 +17,6 @@ use Rattle.machine.proofs.Outcomes.{never, first_goes}
 use Rattle.regions.specs.Regions.{region_at}
 use Rattle.state_media.specs.declared.Links.{Links}
 use Rattle.state_media.specs.declared.Span.{Span}
-use Rattle.state_media.specs.declared.Label.{Label}
-use Rattle.state_media.specs.declared.Label.TheVariants as L
 use Rattle.state_media.specs.declared.Destination.{Destination}
 use Rattle.state_media.specs.Links.{MediaIs, Leads, span_is, label_of}
 use Rattle.state_kept.specs.Clauses.{FindsDefinition}
@@ -31,7 +26,7 @@ use Rattle.state_whole.specs.Whole.{World, Mirrors, Held, with_links}
 use Rattle.state_whole.proofs.Parts.{rel-alike, keeps_same}
 use Rattle.write_held.proofs.Steady.{room_in}
 use Rattle.on_definition.specs.Definitions.{Known}
-use Rattle.on_definition.specs.Private.{SeeksAt, SeeksLabel, sought_of, or_else}
+use Rattle.on_definition.specs.Private.{SeeksAt, SeeksLabel, sought_of}
 
 module _ {text : List ℕ} {b : Whole} {w : World} {s : State} where
   -- what is known of the newest medium, where there is room
@@ -62,17 +57,17 @@ module _ {p : Span} {b : Whole} {text definitions : List ℕ} {f : Found} (k : F
   found-is : (w : World) (s : State) (label : List ℕ) → w.tables.definitions ≡ definitions → Known b → Mirrors text b w s → str_of text (span_is p) ≡ go label → f ≡ first_same (definition_labels s.kept.definitions) label
   found-is w s label i a y l = let k' = rw (← i) at k in k'.finds y.kept (kept-room a y) (label_is text (span_is p) label l)
 
-  pub seeks-nothing : f ≡ Nothing → SeeksAt p b text definitions b
+  pub seeks-nothing : f ≡ None → SeeksAt p b text definitions b
   seeks-nothing e = record {
     seeks = λ w s m ms label d i a y q n l g.
-        let h : first_same (definition_labels s.kept.definitions) label ≡ Nothing = sym (found-is w s label i a y l) ∙ e in
+        let h : first_same (definition_labels s.kept.definitions) label ≡ None = sym (found-is w s label i a y l) ∙ e in
         never (rw h at g);
   }
 
-  pub seeks-found : {n : ℕ} {l : Links} → f ≡ At n → Leads n b.links l → SeeksAt p b text definitions (with_links l b)
+  pub seeks-found : {n : ℕ} {l : Links} → f ≡ Some n → Leads n b.links l → SeeksAt p b text definitions (with_links l b)
   seeks-found {n} e leads = record {
     seeks = λ w s m ms label d i a y q o l g.
-        let h : first_same (definition_labels s.kept.definitions) label ≡ At n = sym (found-is w s label i a y l) ∙ e in
+        let h : first_same (definition_labels s.kept.definitions) label ≡ Some n = sym (found-is w s label i a y l) ∙ e in
         let g' : go (defined n) ≡ go d = rw h at g in
         let z : defined n ≡ d = cc in
         rw (← z) (led m ms leads q o y);
@@ -80,24 +75,24 @@ module _ {p : Span} {b : Whole} {text definitions : List ℕ} {f : Found} (k : F
 
 -- ---- at the label that is sought
 
-unset : {X : Type 0} {p : Span} → L.Unset ≡ L.Is p → X
+unset : {X : Type 0} {p : Span} → None ≡ Some p → X
 unset e = let z : ◌≡◌ {A = ℕ} 0 1 = cc in absurd (omega arith)
 
 str-some : (t : Turn) (q : State.Span) (o : Option (List ℕ)) → (str_of t.text q >>= λ c. go (some c)) ≡ go o → (c : List ℕ) × (str_of t.text q ≡ go c) × (o ≡ some c)
 str-some t q o k = let f = first_goes (str_of t.text q) (λ c. go (some c)) o k in let z : some f.0 ≡ o = (let e = f.2 in cc) in (f.0, f.1, sym z)
 
-sought-span : (t : Turn) (r l : Label) (x y : Option State.Span) (p : Span) (o : Option (List ℕ)) → or_else r l ≡ L.Is p → label_of r ≡ x → label_of l ≡ y → M.label_of t x y ≡ go o → (c : List ℕ) × (str_of t.text (span_is p) ≡ go c) × (o ≡ some c)
-sought-span t L.Unset L.Unset x y p o e i j k = unset e
-sought-span t L.Unset (L.Is q) x y p o e i j k = let z : q ≡ p = cc in let k' = rw (← i, ← j, z) at k in str-some t (span_is p) o k'
-sought-span t (L.Is q) l x y p o e i j k = let z : q ≡ p = cc in let k' = rw (← i, z) at k in str-some t (span_is p) o k'
+sought-span : (t : Turn) (r l : CodeOption Span) (x y : Option State.Span) (p : Span) (o : Option (List ℕ)) → option_or r l ≡ Some p → label_of r ≡ x → label_of l ≡ y → M.label_of t x y ≡ go o → (c : List ℕ) × (str_of t.text (span_is p) ≡ go c) × (o ≡ some c)
+sought-span t None None x y p o e i j k = unset e
+sought-span t None (Some q) x y p o e i j k = let z : q ≡ p = cc in let k' = rw (← i, ← j, z) at k in str-some t (span_is p) o k'
+sought-span t (Some q) l x y p o e i j k = let z : q ≡ p = cc in let k' = rw (← i, z) at k in str-some t (span_is p) o k'
 
-sought-none : (t : Turn) (r l : Label) (x y : Option State.Span) (o : Option (List ℕ)) → or_else r l ≡ L.Unset → label_of r ≡ x → label_of l ≡ y → M.label_of t x y ≡ go o → o ≡ none
-sought-none t L.Unset L.Unset x y o e i j k = let k' = rw (← i, ← j) at k in (cc)
-sought-none t L.Unset (L.Is q) x y o e i j k = unset (sym e)
-sought-none t (L.Is q) l x y o e i j k = unset (sym e)
+sought-none : (t : Turn) (r l : CodeOption Span) (x y : Option State.Span) (o : Option (List ℕ)) → option_or r l ≡ None → label_of r ≡ x → label_of l ≡ y → M.label_of t x y ≡ go o → o ≡ none
+sought-none t None None x y o e i j k = let k' = rw (← i, ← j) at k in (cc)
+sought-none t None (Some q) x y o e i j k = unset (sym e)
+sought-none t (Some q) l x y o e i j k = unset (sym e)
 
-module _ {b : Whole} {text definitions : List ℕ} {x : Label} (is : x ≡ sought_of b.links.media) where
-  pub seeks-unset : x ≡ L.Unset → SeeksLabel b text definitions b
+module _ {b : Whole} {text definitions : List ℕ} {x : CodeOption Span} (is : x ≡ sought_of b.links.media) where
+  pub seeks-unset : x ≡ None → SeeksLabel b text definitions b
   seeks-unset e = record {
     seeks = λ t w s m ms d v i a y q n h.
         let k = newest-is a.held y q in
@@ -107,7 +102,7 @@ module _ {b : Whole} {text definitions : List ℕ} {x : Label} (is : x ≡ sough
         unled m ms d q (n ∙ c) y;
   }
 
-  pub seeks-is : {p : Span} {r : Whole} → x ≡ L.Is p → SeeksAt p b text definitions r → SeeksLabel b text definitions r
+  pub seeks-is : {p : Span} {r : Whole} → x ≡ Some p → SeeksAt p b text definitions r → SeeksLabel b text definitions r
   seeks-is {p} e f = record {
     seeks = λ t w s m ms d v i a y q n h.
         let k = newest-is a.held y q in

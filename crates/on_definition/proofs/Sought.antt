@@ -1,13 +1,12 @@
 -- What the machine does where it seeks a definition; what is held does not grow by it. Assumes nothing.
+use Rattle.std.proofs.Common.{Some, None}
 use mathlib.Core.Path.{◌≡◌, refl, sym, ap, ◌∙◌}
 use mathlib.Core.Bool.{true}
 use mathlib.Core.List.{List, ◌∷◌}
 use mathlib.Core.Option.{Option, none, some}
 use Prim.Native.Nat.{ℕ}
 use native.Mathlib.Omega.{arith}
-use Rattle.normalize_identifier.specs.declared.Found.{Found}
-use Rattle.normalize_identifier.specs.declared.Found.TheVariants.{At, Nothing}
-use Rattle.normalize_identifier.specs.Search.{first_same}
+use Rattle.normalize_identifier.specs.Search.{Found, first_same}
 use Rattle.machine.specs.State as State
 use Rattle.machine.specs.State.{State, no_destination, own, defined}
 use Rattle.machine.specs.Outcome.{go, ◌>>=◌}
@@ -49,8 +48,8 @@ sought-there t s u p =
 -- ---- of the destinations only its own has a size, and that stays
 
 found-size : (f : Found) (d : State.Destination) → defined_at f ≡ go d → size (own_of d) ≡ 0
-found-size (At k) d p = let e : defined k ≡ d = cc in rw (← e)
-found-size Nothing d p = never p
+found-size (Some k) d p = let e : defined k ≡ d = cc in rw (← e)
+found-size None d p = never p
 
 lead-size : (ds : List State.Definition) (x : State.Destination) (o : Option (List ℕ)) (d : State.Destination) → destination_of ds x o ≡ go d → size (own_of d) ≡ size (own_of x)
 lead-size ds no_destination (some b) d p = found-size (first_same (definition_labels ds) b) d p

@@ -1,4 +1,6 @@
 -- What the inner functions answer and do: no part of a promise. Assumes nothing.
+use Rattle.std.specs.Prelude.{Option as CodeOption, Some, None}
+use Rattle.std.specs.Option.{option_or}
 use Rattle.std.specs.Prelude.{◌≡◌, List, ◌∷◌, ℕ, suc, min}
 use Rattle.std.proofs.Math.Option.{Option}
 use Rattle.regions.specs.Sizes.{region_size}
@@ -12,11 +14,7 @@ use Rattle.machine.specs.Media.{destination_of, defined_at, definition_labels}
 use Rattle.machine.specs.Words.{keep_definition}
 use Rattle.normalize_identifier.specs.Search.{first_same}
 use Rattle.state_media.specs.declared.Piece.{Piece}
-use Rattle.state_media.specs.declared.Text.{Text}
-use Rattle.state_media.specs.declared.Text.TheVariants as T
 use Rattle.state_media.specs.declared.Span.{Span}
-use Rattle.state_media.specs.declared.Label.{Label}
-use Rattle.state_media.specs.declared.Label.TheVariants as L
 use Rattle.state_media.specs.declared.Destination.{Destination}
 use Rattle.state_media.specs.declared.Destination.TheVariants as D
 use Rattle.state_media.specs.declared.Media.{Media}
@@ -27,12 +25,8 @@ use Rattle.on_definition.specs.Definitions.{Known, Reads, with_definitions}
 
 -- ---- sought
 
-abbrev pub or_else : Label → Label → Label
-or_else L.Unset y = y
-or_else (L.Is p) y = L.Is p
-
-abbrev pub sought_of : Media → Label
-sought_of m = or_else m.reference_id m.label_id
+abbrev pub sought_of : Media → CodeOption Span
+sought_of m = option_or m.reference_id m.label_id
 
 -- the newest medium leads to the definition of this slice
 pub record SeeksAt (p : Span) (b : Whole) (text definitions : List ℕ) (r : Whole) : Type 0 where
@@ -60,13 +54,13 @@ own_piece D.Nowhere = no_piece
 own_piece (D.Own p) = p
 own_piece (D.Defined k) = no_piece
 
-abbrev pub text_piece : Text → Piece
-text_piece T.Unset = no_piece
-text_piece (T.Is p) = p
+abbrev pub text_piece : CodeOption Piece → Piece
+text_piece None = no_piece
+text_piece (Some p) = p
 
-abbrev pub word_of : Text → ℕ
-word_of T.Unset = 0
-word_of (T.Is p) = suc (min p.length region_size)
+abbrev pub word_of : CodeOption Piece → ℕ
+word_of None = 0
+word_of (Some p) = suc (min p.length region_size)
 
 -- the newest medium is kept, and closed
 pub record KeepsNewest (b : Whole) (text work definitions : List ℕ) (r : Whole) (work' definitions' : List ℕ) : Type 0 where
@@ -74,4 +68,4 @@ pub record KeepsNewest (b : Whole) (text work definitions : List ℕ) (r : Whole
 
 -- under this slice
 pub record KeepsAt (p : Span) (b : Whole) (text work definitions : List ℕ) (r : Whole) (work' definitions' : List ℕ) : Type 0 where
-  pub keeps : b.links.media.reference_id ≡ L.Is p → KeepsNewest b text work definitions r work' definitions'
+  pub keeps : b.links.media.reference_id ≡ Some p → KeepsNewest b text work definitions r work' definitions'

@@ -12,8 +12,7 @@ ghost use Rattle.state_context.specs.Rel.{Any};
 ghost use Rattle.on_link.specs.Links.{Handled};
 
 use event::Event;
-use normalize_identifier::Found;
-use state_media::{Destination, Label, Media, Piece, Span, Text};
+use state_media::{Destination, Media, Piece, Span};
 use state_whole::Whole;
 
 pub fn on_enter_definition(b: Whole, starts: &mut [usize]) -> Whole
@@ -46,15 +45,10 @@ pub fn on_exit_definition_title_string(b: Whole, work: &mut [u8], starts: &[usiz
 // ---- sought
 
 // The reference string, else the label text.
-fn sought_label(m: Media) -> Label
+fn sought_label(m: Media) -> Option<Span>
     ensures { result ≡ sought_of m }
 {
-    let reference = m.reference_id;
-    let label = m.label_id;
-    match reference {
-        Label::Unset => label,
-        Label::Is(p) => Label::Is(p),
-    }
+    m.reference_id.or(m.label_id)
 }
 
 fn seek_at(b: Whole, p: Span, text: &[u8], definitions: &[usize]) -> Whole
@@ -64,8 +58,8 @@ fn seek_at(b: Whole, p: Span, text: &[u8], definitions: &[usize]) -> Whole
     let to = p.to.0;
     let found = state_kept::find_definition(b.kept, text, from, to, definitions);
     match found {
-        Found::Nothing => b,
-        Found::At(k) => {
+        None => b,
+        Some(k) => {
             let mut r = b;
             r.links = state_media::lead_to(b.links, k);
             r
@@ -79,8 +73,8 @@ fn seek_label(b: Whole, text: &[u8], definitions: &[usize]) -> Whole
     let l = b.links;
     let label = sought_label(l.media);
     match label {
-        Label::Unset => b,
-        Label::Is(p) => seek_at(b, p, text, definitions),
+        None => b,
+        Some(p) => seek_at(b, p, text, definitions),
     }
 }
 
@@ -114,40 +108,28 @@ fn own_piece(d: Destination) -> Piece
     }
 }
 
-fn text_piece(t: Text) -> Piece
+fn text_piece(t: Option<Piece>) -> Piece
     ensures { result ≡ text_piece t }
 {
     let none = Piece {
         place: 0,
         length: 0,
     };
-    match t {
-        Text::Unset => none,
-        Text::Is(p) => p,
-    }
+    t.unwrap_or(none)
 }
 
 // A place or length within a region.
 pub fn at_most(n: usize) -> usize
     ensures { result ≡ min n region_size }
 {
-    if regions::SIZE < n {
-        return regions::SIZE;
-    }
-    n
+    n.min(regions::SIZE)
 }
 
 // 0 without a title, else one more than its length.
-fn word_of(t: Text) -> usize
+fn word_of(t: Option<Piece>) -> usize
     ensures { result ≡ word_of t }
 {
-    match t {
-        Text::Unset => 0,
-        Text::Is(p) => {
-            let n = at_most(p.length);
-            n + 1
-        }
-    }
+    t.map_or(0, |p| at_most(p.length) + 1)
 }
 
 fn keep_at(b: Whole, p: Span, text: &[u8], work: &mut [u8], definitions: &mut [usize]) -> Whole
@@ -186,8 +168,8 @@ fn keep_newest(b: Whole, text: &[u8], work: &mut [u8], definitions: &mut [usize]
     let m = l.media;
     let label = m.reference_id;
     match label {
-        Label::Unset => b,
-        Label::Is(p) => keep_at(b, p, text, work, definitions),
+        None => b,
+        Some(p) => keep_at(b, p, text, work, definitions),
     }
 }
 

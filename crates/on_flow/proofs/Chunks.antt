@@ -1,4 +1,5 @@
 -- A line of code between its virtual spaces. Assumes nothing.
+use Rattle.std.specs.Prelude.{◌⊎◌}
 use mathlib.Core.Path.{◌≡◌, ap}
 use mathlib.Core.Bool.{true}
 use mathlib.Core.List.{List, ◌++◌}
@@ -20,7 +21,7 @@ use Rattle.state_buffers.specs.Stand as Stand
 use Rattle.state_context.specs.declared.Context.{Context}
 use Rattle.state_context.specs.Rel.{Sees, Keeps, escaping_in}
 use Rattle.state_context.proofs.Laws.{with_buffers}
-use Rattle.state_context.proofs.Slices.{owned-back, owned-out, owned-pushes}
+use Rattle.state_context.proofs.Slices.{not-owned, owned-pushes}
 
 abbrev spaced : Event → List ℕ → List ℕ
 spaced e b = replicate e.before 32 ++ b ++ replicate e.after 32
@@ -33,12 +34,9 @@ unfolding exec within
 is-chunk t s = ap (one true) (joins (own_str t) (encoded t s) (λ b. go (push b s)))
 
 module _ (text : List ℕ) (e : Event) {c : Context} {w o : List ℕ} where
-  pub chunk_back : e.to.0 < e.from.0 → Keeps (Sees text e) chunk c w o c w o
-  chunk_back h = owned-back text e chunk encoded is-chunk h
+  pub no-chunk : (e.to.0 < e.from.0) ⊎ (length text < e.to.0) → Keeps (Sees text e) chunk c w o c w o
+  no-chunk h = not-owned text e chunk encoded is-chunk h
 
-  pub chunk_out : length text < e.to.0 → Keeps (Sees text e) chunk c w o c w o
-  chunk_out h = owned-out text e chunk encoded is-chunk h
-
-  pub chunks : {y : Escaping} {x : Buffers} {w' o' : List ℕ} → y ≡ escaping_in c.word → Stand.Keeps (push (encode_of y (spaced e (take (e.to.0 - e.from.0) (drop e.from.0 text))))) c.buffers w o x w' o'
+  pub chunks : {z : List ℕ} {y : Escaping} {x : Buffers} {w' o' : List ℕ} → z ≡ take (e.to.0 - e.from.0) (drop e.from.0 text) → y ≡ escaping_in c.word → Stand.Keeps (push (encode_of y (spaced e z))) c.buffers w o x w' o'
       → Keeps (Sees text e) chunk c w o (with_buffers x c) w' o'
-  chunks {y} a k = owned-pushes text e chunk encoded is-chunk a (encode_of y (spaced e (take (e.to.0 - e.from.0) (drop e.from.0 text)))) (λ t s v i. rw (i, ← v.event-is)) k
+  chunks {z} {y} q a k = owned-pushes text e chunk encoded is-chunk a (encode_of y (spaced e z)) (λ t s v i. rw (i, q, ← v.event-is)) k

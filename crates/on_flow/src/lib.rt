@@ -10,7 +10,7 @@ ghost use Rattle.machine.specs.Words.{when, unless, put, set, line_ending, line_
 ghost use Rattle.state_context.specs.Rel.{Any, Keeps, Takes, FenceBefore, Sees};
 
 use event::Event;
-use state_context::{Answer, Context};
+use state_context::Context;
 
 pub fn on_enter_paragraph(c: Context, captures: &mut [u8], out: &mut [u8]) -> Context
     ensures { Keeps Any on_enter_paragraph c captures.old out.old result captures.new out.new }
@@ -58,7 +58,7 @@ pub fn on_exit_thematic_break(c: Context, captures: &mut [u8], out: &mut [u8]) -
 pub fn on_enter_code_indented(c: Context, captures: &mut [u8], out: &mut [u8]) -> Context
     ensures { Keeps Any on_enter_code_indented c captures.old out.old result captures.new out.new }
 {
-    let seen = state_context::set_seen(c, Answer::No);
+    let seen = state_context::set_seen(c, Some(false));
     let r = state_context::line_ending_if_needed(seen, captures, out);
     state_context::push(r, captures, out, b"<pre><code>")
 }
@@ -67,7 +67,7 @@ pub fn on_enter_code_indented(c: Context, captures: &mut [u8], out: &mut [u8]) -
 pub fn on_enter_raw_flow(c: Context, captures: &mut [u8], out: &mut [u8]) -> Context
     ensures { Keeps Any on_enter_raw_flow c captures.old out.old result captures.new out.new }
 {
-    let seen = state_context::set_seen(c, Answer::No);
+    let seen = state_context::set_seen(c, Some(false));
     let line = state_context::line_ending_if_needed(seen, captures, out);
     let r = state_context::push(line, captures, out, b"<pre><code");
     state_context::open_fences(r)
@@ -135,7 +135,7 @@ pub fn on_exit_raw_flow(
 {
     let open = end_open_code(c, fence_before, captures, out);
     let line = end_seen_data(open, captures, out);
-    let unseen = state_context::set_seen(line, Answer::Unset);
+    let unseen = state_context::set_seen(line, None);
     let tag = state_context::push(unseen, captures, out, b"</code></pre>");
     let fence = end_missing_fence(tag, captures, out);
     let r = state_context::end_fences(fence);
@@ -168,27 +168,14 @@ pub fn on_exit_raw_flow_fence_info(
 fn push_chunk(c: Context, text: &[u8], e: Event, captures: &mut [u8], out: &mut [u8]) -> Context
     ensures { Keeps (Sees text.now e) chunk c captures.old out.old result captures.new out.new }
 {
-    let from = e.from.0;
-    let to = e.to.0;
-    if to < from {
+    let Some(s) = text.get(e.from.0..e.to.0) else {
         return c;
-    }
-    if text.len() < to {
-        return c;
-    }
+    };
     let mut r = c;
     let escaping = state_context::escaping_in(c);
     let before = e.before;
     let after = e.after;
-    r.buffers = write_pieces::push_padded(
-        c.buffers,
-        captures,
-        out,
-        before,
-        &text[from..to],
-        after,
-        escaping,
-    );
+    r.buffers = write_pieces::push_padded(c.buffers, captures, out, before, s, after, escaping);
     r
 }
 
@@ -201,6 +188,6 @@ pub fn on_exit_raw_flow_chunk(
 ) -> Context
     ensures { Keeps (Sees text.now e) on_exit_raw_flow_chunk c captures.old out.old result captures.new out.new }
 {
-    let r = state_context::set_seen(c, Answer::Yes);
+    let r = state_context::set_seen(c, Some(true));
     push_chunk(r, text, e, captures, out)
 }

@@ -1,4 +1,5 @@
 -- What is known where the machine goes on with a call. Assumes nothing.
+use Rattle.std.specs.Prelude.{Some, None}
 use Rattle.std.specs.Prelude.{if◌then◌else◌}
 use mathlib.Core.Path.{◌≡◌, sym, ap, ◌∙◌}
 use mathlib.Core.Bool.{Bool, true, false}
@@ -18,7 +19,6 @@ use Rattle.machine.specs.Turn.{Turn, str_of}
 use Rattle.machine.specs.Footnote.{address_of, call_index, count_at, times_at, call_text, call_note}
 use Rattle.machine.proofs.Outcomes.{never, first_goes}
 use Rattle.state_media.specs.declared.Span.{Span}
-use Rattle.state_media.specs.declared.Label.TheVariants as L
 use Rattle.state_media.specs.Links.{label_of, span_is}
 use Rattle.state_kept.specs.Kept.{LabelIs}
 use Rattle.state_kept.proofs.Labels.{label_is}
@@ -91,16 +91,16 @@ pub record KnownCall (p : Span) (text : List ℕ) (s u : State) : Type 0 where
   pub label-there : LabelIs text p.from.0 p.to.0 label
   pub then_is : (if s.flags.alt then counted label others s else push (text_of s.fixed.apostrophes label s.kept.calls) (counted label others s)) ≡ u
 
-pub known : {text : List ℕ} {b : Whole} {w : World} {p : Span} (t : Turn) (s u : State) → b.links.media.label_id ≡ L.Is p → t.text ≡ text → b.links.end ≤ region_size → Mirrors text b w s → call_note t s ≡ go u → KnownCall p text s u
+pub known : {text : List ℕ} {b : Whole} {w : World} {p : Span} (t : Turn) (s u : State) → b.links.media.label_id ≡ Some p → t.text ≡ text → b.links.end ≤ region_size → Mirrors text b w s → call_note t s ≡ go u → KnownCall p text s u
 known {text} {p = p} t s u e v h y q =
     let c = called t s u q in
-    let x : label_of (L.Is p) ≡ c.newest.label_id = ap label_of (sym e) ∙ labelled s y h c.media-are in
+    let x : label_of (Some p) ≡ c.newest.label_id = ap label_of (sym e) ∙ labelled s y h c.media-are in
     let z : some (span_is p) ≡ some c.span = x ∙ c.span-is in
     let i : span_is p ≡ c.span = cc in
     let l : str_of text (span_is p) ≡ go c.label = ap (λ (a : List ℕ). str_of a (span_is p)) (sym v) ∙ ap (str_of t.text) i ∙ c.label-there in
     record { newest = c.newest; others = c.others; label = c.label; media-are = c.media-are; label-there = label_is text (span_is p) c.label l; then_is = c.then_is }
 
-pub unlabelled : {text : List ℕ} {b : Whole} {w : World} (t : Turn) (s u : State) → b.links.media.label_id ≡ L.Unset → b.links.end ≤ region_size → Mirrors text b w s → call_note t s ≡ go u → ⊥
+pub unlabelled : {text : List ℕ} {b : Whole} {w : World} (t : Turn) (s u : State) → b.links.media.label_id ≡ None → b.links.end ≤ region_size → Mirrors text b w s → call_note t s ≡ go u → ⊥
 unlabelled t s u e h y q =
     let c = called t s u q in
     let x : none ≡ some c.span = ap label_of (sym e) ∙ labelled s y h c.media-are ∙ c.span-is in

@@ -1,4 +1,5 @@
 -- A call counted, and written where it is in no image's text. Assumes nothing.
+use Rattle.std.specs.Prelude.{Some, None}
 use Rattle.std.specs.Prelude.{if◌then◌else◌}
 use mathlib.Core.Path.{◌≡◌, refl, sym, ap, ◌∙◌}
 use mathlib.Core.Bool.{Bool, true, false}
@@ -25,7 +26,6 @@ use Rattle.state_context.proofs.Constants.{apostrophes-told}
 use Rattle.state_context.proofs.Commands.{flag-told}
 use Rattle.state_media.specs.declared.Links.{Links}
 use Rattle.state_media.specs.declared.Span.{Span}
-use Rattle.state_media.specs.declared.Label.TheVariants as L
 use Rattle.state_media.specs.Links.{Closes}
 use Rattle.state_kept.specs.declared.Kept.{Kept}
 use Rattle.state_kept.specs.Kept.{InTables, LabelIs, tables}
@@ -49,7 +49,7 @@ long-enough e = omega arith
 same-lent : {text work out calls : List ℕ} {r : Whole} (w : World) {u : State} → w.work ≡ work → w.out ≡ out → Mirrors text r (with_calls calls w) u → Mirrors text r (with_calls calls (with_out out (with_work work w))) u
 same-lent w i j y = rw (← i, ← j) y
 
-pub no_label : {b : Whole} {text work out calls : List ℕ} → b.links.media.label_id ≡ L.Unset → OnCalls Held call b text work out calls b work out calls
+pub no_label : {b : Whole} {text work out calls : List ℕ} → b.links.media.label_id ≡ None → OnCalls Held call b text work out calls b work out calls
 unfolding within exec
 no_label e = record {
   on-calls = λ w i j h. record {
@@ -78,7 +78,7 @@ writing {a = a} {label = label} {work' = work'} {out' = out'} {ms = ms} {index =
     let o : call_text (address_of q label) (suc index) times ≡ text_of q label cs = ap (call_text (address_of q label) (suc index)) m ∙ ap (λ (i : ℕ). call_text (address_of q label) (suc i) (times_at i (count_at (call_index label cs) label cs))) e in
     shown (counted label ms s) (record { keeps = rw (← o) g.keeps; behind = g.behind; long = n }) c.built
 
-pub by-label : {p : Span} {b r : Whole} {text work out calls work' out' calls' : List ℕ} → CallsLabel p b text work out calls r work' out' calls' → b.links.media.label_id ≡ L.Is p → OnCalls Held call b text work out calls r work' out' calls'
+pub by-label : {p : Span} {b r : Whole} {text work out calls work' out' calls' : List ℕ} → CallsLabel p b text work out calls r work' out' calls' → b.links.media.label_id ≡ Some p → OnCalls Held call b text work out calls r work' out' calls'
 by-label k e = k.calls-label e
 
 module _ {p : Span} {b : Whole} {text calls calls' : List ℕ} {index : ℕ} {k : Kept} {l : Links}

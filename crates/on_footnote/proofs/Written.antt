@@ -1,4 +1,5 @@
 -- A call written to the newest buffer: the captures are the first of the work bytes. Assumes nothing.
+use Rattle.std.proofs.Common.{◌⊎◌, inl, inr}
 use mathlib.Core.Path.{◌≡◌, ◌∙◌}
 use mathlib.Core.Bool.{Bool}
 use mathlib.Core.List.{List, ◌++◌}
@@ -14,11 +15,8 @@ use Rattle.state_buffers.specs.Stand as Stand
 use Rattle.on_footnote.specs.Private.{WritesCall}
 
 module _ {apostrophes : Bool} {b : Buffers} {text work out : List ℕ} {from to index times : ℕ} where
-  pub unordered : to < from → WritesCall apostrophes b text from to index times work out b work out
-  unordered h = record { writes = λ label l i n. absurd (omega (arith, l.ordered)) }
-
-  pub outside : length text < to → WritesCall apostrophes b text from to index times work out b work out
-  outside h = record { writes = λ label l i n. absurd (omega (arith, l.inside)) }
+  pub nowhere : (to < from) ⊎ (length text < to) → WritesCall apostrophes b text from to index times work out b work out
+  nowhere h = record { writes = λ label l i n. absurd (elim h [ inl x ↦ omega (arith, l.ordered) | inr x ↦ omega (arith, l.inside) ]) }
 
   pub short : length work < region_size → WritesCall apostrophes b text from to index times work out b work out
   short h = record { writes = λ label l i n. absurd (omega arith) }
@@ -26,12 +24,12 @@ module _ {apostrophes : Bool} {b : Buffers} {text work out : List ℕ} {from to 
   pub full : 64 ≤ index → WritesCall apostrophes b text from to index times work out b work out
   full h = record { writes = λ label l i n. absurd (omega arith) }
 
-  pub written : {r : Buffers} {captures out' : List ℕ} → length captures ≡ length (take region_size work) → Stand.Keeps (push (call_text (address_of apostrophes (take (to - from) (drop from text))) (index + 1) times)) b (take region_size work) out r captures out'
+  pub written : {z : List ℕ} {r : Buffers} {captures out' : List ℕ} → z ≡ take (to - from) (drop from text) → length captures ≡ length (take region_size work) → Stand.Keeps (push (call_text (address_of apostrophes z) (index + 1) times)) b (take region_size work) out r captures out'
       → WritesCall apostrophes b text from to index times work out r (captures ++ drop region_size work) out'
-  written {captures = captures} e k = record {
+  written {captures = captures} q e k = record {
     writes = λ label l i n.
         let a : length captures ≡ region_size = e ∙ simp length-take (omega arith) in
         let m : index + 1 ≡ suc index = omega arith in
-        let k' = rw (l.is, m) at k in
+        let k' = rw (q, l.is, m) at k in
         record { keeps = rw (take_at captures (drop region_size work) region_size a) k'; behind = drop_at captures (drop region_size work) region_size a };
   }

@@ -1,4 +1,5 @@
 -- What the inner functions do: no part of a promise. Assumes nothing.
+use Rattle.std.specs.Prelude.{Some}
 use Rattle.std.specs.Prelude.{◌≡◌, Bool, List, ℕ, suc, ◌≤◌, ◌<◌, length, take, drop}
 use Rattle.regions.specs.Sizes.{region_size}
 use Rattle.machine.specs.Buffers.{push}
@@ -7,7 +8,6 @@ use Rattle.machine.specs.Words.{call}
 use Rattle.state_buffers.specs.declared.Buffers.{Buffers}
 use Rattle.state_buffers.specs.Stand as Stand
 use Rattle.state_media.specs.declared.Span.{Span}
-use Rattle.state_media.specs.declared.Label.TheVariants as L
 use Rattle.state_kept.specs.Kept.{LabelIs}
 use Rattle.state_whole.specs.declared.Whole.{Whole}
 use Rattle.state_whole.specs.Whole.{Held}
@@ -15,7 +15,7 @@ use Rattle.on_footnote.specs.Footnotes.{OnCalls}
 
 -- the newest medium is known by this slice
 pub record CallsLabel (p : Span) (b : Whole) (text work out calls : List ℕ) (r : Whole) (work' out' calls' : List ℕ) : Type 0 where
-  pub calls-label : b.links.media.label_id ≡ L.Is p → OnCalls Held call b text work out calls r work' out' calls'
+  pub calls-label : b.links.media.label_id ≡ Some p → OnCalls Held call b text work out calls r work' out' calls'
 
 -- a call to the newest buffer; what stands behind the captures stays
 pub record Written (t : List ℕ) (b : Buffers) (work out : List ℕ) (r : Buffers) (work' out' : List ℕ) : Type 0 where

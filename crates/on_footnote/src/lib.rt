@@ -11,7 +11,7 @@ ghost use Rattle.on_footnote.specs.Private.{CallsLabel, WritesCall};
 use event::Event;
 use state_buffers::Buffers;
 use state_context::Context;
-use state_media::{Label, Span};
+use state_media::Span;
 use state_whole::Whole;
 
 // ---- calls
@@ -37,8 +37,8 @@ pub fn on_exit_gfm_footnote_call(
     let m = l.media;
     let label = m.label_id;
     match label {
-        Label::Unset => b,
-        Label::Is(p) => call_label(b, p, text, work, out, calls),
+        None => b,
+        Some(p) => call_label(b, p, text, work, out, calls),
     }
 }
 
@@ -100,19 +100,15 @@ fn write_call(
 ) -> Buffers
     ensures { WritesCall apostrophes b text.now from to index times work.old out.old result work.new out.new }
 {
-    if to < from {
+    let Some(label) = text.get(from..to) else {
         return b;
-    }
-    if text.len() < to {
-        return b;
-    }
+    };
     if work.len() < regions::SIZE {
         return b;
     }
     if 64 <= index {
         return b;
     }
-    let label = &text[from..to];
     let captures = &mut work[0..regions::SIZE];
     write_footnote::push_call(b, captures, out, label, apostrophes, index + 1, times)
 }

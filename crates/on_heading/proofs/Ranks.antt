@@ -1,5 +1,7 @@
 -- The rank of a heading: kept, and written. Assumes nothing.
-use Rattle.std.specs.Prelude.{if◌then◌else◌}
+use Rattle.std.specs.Prelude.{Some, None}
+use Rattle.std.specs.Prelude.{if◌then◌else◌, ◌⊎◌}
+use Rattle.std.proofs.Common.{inl, inr, ◌+◌}
 use mathlib.Core.Path.{◌≡◌, sym, ap, ◌∙◌}
 use mathlib.Core.Bool.{true, ◌&&◌}
 use mathlib.Core.List.{List}
@@ -24,7 +26,6 @@ use Rattle.machine_bounded.specs.Within.{within}
 use Rattle.machine_bounded.proofs.Bounds.{done}
 use Rattle.state_buffers.specs.declared.Buffers.{Buffers}
 use Rattle.state_buffers.specs.Stand as Stand
-use Rattle.state_context.specs.declared.Number.TheVariants as N
 use Rattle.state_context.specs.declared.Context.{Context}
 use Rattle.state_context.specs.Rel.{Any, Sees, Keeps, SetsFor, Ranks}
 use Rattle.state_context.proofs.Laws.{with_buffers, rel-buffers, pushed}
@@ -62,14 +63,18 @@ module _ (text : List ℕ) (e : Event) where
       (f.0, own-slice t f.0 v f.1, (let z = f.2 in cc))
 
   module _ {c : Context} where
-    pub rank-back : e.to.0 < e.from.0 → SetsFor (Sees text e) keep_rank c c
-    rank-back h = record { sets = λ w o. record { keeps = λ t b s u v x p. (let k = (kept t s u v p).1.ordered in absurd (omega arith)) } }
+    pub no-rank-kept : (e.to.0 < e.from.0) ⊎ (length text < e.to.0) → SetsFor (Sees text e) keep_rank c c
+    no-rank-kept h = record { sets = λ w o. record { keeps = λ t b s u v x p. (let k = (kept t s u v p).1 in absurd (elim h [ inl y ↦ omega (arith, k.ordered) | inr y ↦ omega (arith, k.inside) ])) } }
 
-    pub rank-out : length text < e.to.0 → SetsFor (Sees text e) keep_rank c c
-    rank-out h = record { sets = λ w o. record { keeps = λ t b s u v x p. (let k = (kept t s u v p).1.inside in absurd (omega arith)) } }
-
-    pub keeps-rank : {r : Context} → Ranks (N.Is (e.to.0 - e.from.0)) c r → SetsFor (Sees text e) keep_rank c r
-    keeps-rank q = record { sets = λ w o. record { keeps = λ t b s u v x p. (let k = kept t s u v p in rw (← k.2, ← k.1.long) (q.ranks w o b s x)) } }
+    pub keeps-rank : {r : Context} {n : ℕ} → n + e.from.0 ≡ e.to.0 → Ranks (Some n) c r → SetsFor (Sees text e) keep_rank c r
+    keeps-rank {n = n} h q = record {
+      sets = λ w o. record {
+        keeps = λ t b s u v x p.
+            let k = kept t s u v p in
+            let i : n ≡ length k.0 = omega (arith, k.1.long) in
+            rw (← k.2, ← i) (q.ranks w o b s x);
+      };
+    }
 
 -- ---- written
 
@@ -87,13 +92,13 @@ stays (some m) s u h p = let z : ◌≡◌ {A = ℕ} 0 1 = cc in absurd (omega a
 
 module _ {c : Context} {w o : List ℕ} where
   -- with no rank the machine stops
-  pub no-rank : c.rank ≡ N.Unset → Keeps Any rank c w o c w o
+  pub no-rank : c.rank ≡ None → Keeps Any rank c w o c w o
   unfolding exec within
   no-rank q = record {
     keeps = λ t b s u v x p. stays s.waiting.rank s u (rw q at x.waits.rank) (ranked t s u p);
   }
 
-  pub writes-rank : (n : ℕ) → c.rank ≡ N.Is n → {x : Buffers} {w' o' : List ℕ} → Stand.Keeps (push (decimal n)) c.buffers w o x w' o' → Keeps Any rank c w o (with_buffers x c) w' o'
+  pub writes-rank : (n : ℕ) → c.rank ≡ Some n → {x : Buffers} {w' o' : List ℕ} → Stand.Keeps (push (decimal n)) c.buffers w o x w' o' → Keeps Any rank c w o (with_buffers x c) w' o'
   unfolding exec within
   writes-rank n q k = record {
     keeps = λ t b s u v x p.

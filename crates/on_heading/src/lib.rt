@@ -6,7 +6,7 @@ ghost use Rattle.machine.specs.OnHeading.{on_exit_heading_atx_sequence, on_exit_
 ghost use Rattle.state_context.specs.Rel.{Any, Sees, Keeps, SetsFor, Takes};
 
 use event::Event;
-use state_context::{Context, Number};
+use state_context::Context;
 
 // ---- headings
 
@@ -14,23 +14,17 @@ use state_context::{Context, Number};
 fn keep_rank(c: Context, text: &[u8], e: Event) -> Context
     ensures { SetsFor (Sees text.now e) keep_rank c result }
 {
-    let from = e.from.0;
-    let to = e.to.0;
-    if to < from {
+    let Some(s) = text.get(e.from.0..e.to.0) else {
         return c;
-    }
-    if text.len() < to {
-        return c;
-    }
-    state_context::with_rank(c, Number::Is(to - from))
+    };
+    state_context::with_rank(c, Some(s.len()))
 }
 
 // The rank that waits, in decimal.
 fn push_rank(c: Context, captures: &mut [u8], out: &mut [u8]) -> Context
     ensures { Keeps Any rank c captures.old out.old result captures.new out.new }
 {
-    let x = c.rank;
-    let Number::Is(n) = x else {
+    let Some(n) = c.rank else {
         return c;
     };
     let mut r = c;

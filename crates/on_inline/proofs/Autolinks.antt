@@ -1,4 +1,5 @@
 -- The event's slice as a URL. Assumes nothing.
+use Rattle.std.specs.Prelude.{◌⊎◌}
 use mathlib.Core.Path.{◌≡◌, ap, ◌∙◌}
 use mathlib.Core.Bool.{false}
 use mathlib.Core.List.{List, ◌++◌}
@@ -26,7 +27,7 @@ use Rattle.state_context.specs.declared.Context.{Context}
 use Rattle.state_context.specs.Rel.{Sees, Keeps}
 use Rattle.state_context.proofs.Laws.{with_buffers, rel-buffers, pushed}
 use Rattle.on_inline.specs.View.{SeesWith}
-use Rattle.state_context.proofs.Slices.{Sliced}
+use Rattle.state_context.proofs.Slices.{Sliced, no-slice}
 use Rattle.on_inline.proofs.Own.{slice_in, own}
 
 abbrev address_of : String → Turn → List ℕ → List ℕ
@@ -42,40 +43,31 @@ module _ {View : Turn → Type 0} {text : List ℕ} {e : Event} (sees : (t : Tur
       (f.0, own t f.0 (sees t v) f.1, ap (λ (l : List ℕ). push l s) z ∙ q.2)
 
   module _ {c : Context} {w o : List ℕ} where
-    back : e.to.0 < e.from.0 → Keeps View (url scheme) c w o c w o
-    back h = record { keeps = λ t b s u v x p. (let k = (went t s u v p).1.ordered in absurd (omega arith)) }
+    nowhere : (e.to.0 < e.from.0) ⊎ (length text < e.to.0) → Keeps View (url scheme) c w o c w o
+    nowhere h = record { keeps = λ t b s u v x p. absurd (no-slice h (went t s u v p).1) }
 
-    out : length text < e.to.0 → Keeps View (url scheme) c w o c w o
-    out h = record { keeps = λ t b s u v x p. (let k = (went t s u v p).1.inside in absurd (omega arith)) }
-
-    links : {x : Buffers} {w' o' : List ℕ} → ((t : Turn) → View t → Stand.Keeps (push (address_of scheme t (slice_in text e))) c.buffers w o x w' o') → Keeps View (url scheme) c w o (with_buffers x c) w' o'
-    links k = record {
+    links : {z : List ℕ} {x : Buffers} {w' o' : List ℕ} → z ≡ slice_in text e → ((t : Turn) → View t → Stand.Keeps (push (address_of scheme t z)) c.buffers w o x w' o') → Keeps View (url scheme) c w o (with_buffers x c) w' o'
+    links {z} i k = record {
       keeps = λ t b s u v x p.
           let q = went t s u v p in
-          let h : push (address_of scheme t (slice_in text e)) s ≡ u = rw (← q.1.bytes) q.2 in
-          rw (← h) (rel-buffers x (pushed (address_of scheme t (slice_in text e)) s) ((k t v).keeps b s x.stand));
+          let h : push (address_of scheme t z) s ≡ u = rw (i, ← q.1.bytes) q.2 in
+          rw (← h) (rel-buffers x (pushed (address_of scheme t z) s) ((k t v).keeps b s x.stand));
     }
 
 -- ---- by the options
 
 module _ (text : List ℕ) (e : Event) {options : Options} {c : Context} {w o : List ℕ} where
-  pub url-back : e.to.0 < e.from.0 → Keeps (SeesWith text e options) (url "") c w o c w o
-  url-back h = back (λ t v. v.sees) "" h
+  pub no-url : (e.to.0 < e.from.0) ⊎ (length text < e.to.0) → Keeps (SeesWith text e options) (url "") c w o c w o
+  no-url h = nowhere (λ t v. v.sees) "" h
 
-  pub url-out : length text < e.to.0 → Keeps (SeesWith text e options) (url "") c w o c w o
-  url-out h = out (λ t v. v.sees) "" h
-
-  pub urls : {x : Buffers} {w' o' : List ℕ} → Stand.Keeps (push (url_of options false (slice_in text e))) c.buffers w o x w' o' → Keeps (SeesWith text e options) (url "") c w o (with_buffers x c) w' o'
-  urls k = links (λ t v. v.sees) "" (λ t v. rw v.options-are k)
+  pub urls : {z : List ℕ} {x : Buffers} {w' o' : List ℕ} → z ≡ slice_in text e → Stand.Keeps (push (url_of options false z)) c.buffers w o x w' o' → Keeps (SeesWith text e options) (url "") c w o (with_buffers x c) w' o'
+  urls i k = links (λ t v. v.sees) "" i (λ t v. rw v.options-are k)
 
 -- ---- mail
 
 module _ (text : List ℕ) (e : Event) {options : Options} {c : Context} {w o : List ℕ} where
-  pub mail-back : e.to.0 < e.from.0 → Keeps (SeesWith text e options) (url "mailto:") c w o c w o
-  mail-back h = back (λ t v. v.sees) "mailto:" h
+  pub no-mail : (e.to.0 < e.from.0) ⊎ (length text < e.to.0) → Keeps (SeesWith text e options) (url "mailto:") c w o c w o
+  no-mail h = nowhere (λ t v. v.sees) "mailto:" h
 
-  pub mail-out : length text < e.to.0 → Keeps (SeesWith text e options) (url "mailto:") c w o c w o
-  mail-out h = out (λ t v. v.sees) "mailto:" h
-
-  pub mails : {x : Buffers} {w' o' : List ℕ} → PushesMail options.escape_apostrophes (slice_in text e) c.buffers w o x w' o' → Keeps (SeesWith text e options) (url "mailto:") c w o (with_buffers x c) w' o'
-  mails k = links (λ t v. v.sees) "mailto:" (λ t v. k.pushes t.options (ap (λ (x : Options). x.escape_apostrophes) v.options-are))
+  pub mails : {z : List ℕ} {x : Buffers} {w' o' : List ℕ} → z ≡ slice_in text e → PushesMail options.escape_apostrophes z c.buffers w o x w' o' → Keeps (SeesWith text e options) (url "mailto:") c w o (with_buffers x c) w' o'
+  mails i k = links (λ t v. v.sees) "mailto:" i (λ t v. k.pushes t.options (ap (λ (x : Options). x.escape_apostrophes) v.options-are))

@@ -96,16 +96,11 @@ fn push_url(
 ) -> Context
     ensures { Keeps (SeesWith text.now e options) (url "") c captures.old out.old result captures.new out.new }
 {
-    let from = e.from.0;
-    let to = e.to.0;
-    if to < from {
+    let Some(s) = text.get(e.from.0..e.to.0) else {
         return c;
-    }
-    if text.len() < to {
-        return c;
-    }
+    };
     let mut r = c;
-    r.buffers = write_pieces::push_url(c.buffers, captures, out, &text[from..to], options, false);
+    r.buffers = write_pieces::push_url(c.buffers, captures, out, s, options, false);
     r
 }
 
@@ -120,22 +115,11 @@ fn push_mail(
 ) -> Context
     ensures { Keeps (SeesWith text.now e options) (url "mailto:") c captures.old out.old result captures.new out.new }
 {
-    let from = e.from.0;
-    let to = e.to.0;
-    if to < from {
+    let Some(s) = text.get(e.from.0..e.to.0) else {
         return c;
-    }
-    if text.len() < to {
-        return c;
-    }
+    };
     let mut r = c;
-    r.buffers = write_pieces::push_mail(
-        c.buffers,
-        captures,
-        out,
-        &text[from..to],
-        options.escape_apostrophes,
-    );
+    r.buffers = write_pieces::push_mail(c.buffers, captures, out, s, options.escape_apostrophes);
     r
 }
 

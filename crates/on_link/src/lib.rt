@@ -10,11 +10,11 @@ ghost use Rattle.machine.specs.OnLink.{on_enter_link, on_enter_image, on_exit_la
 ghost use Rattle.machine.specs.Media as M;
 ghost use Rattle.state_context.specs.Rel.{Any, Begins};
 ghost use Rattle.state_whole.specs.Whole.{Always, Roomy, Unlent, FromStarts, OnStarts, OnWork};
-ghost use Rattle.on_link.specs.Links.{Handled};
+ghost use Rattle.on_link.specs.Links.{Handled, StoresBy};
 
 use event::Event;
 use state_context::Context;
-use state_media::Span;
+use state_media::{Links, Span};
 use state_whole::Whole;
 
 // ---- links and images
@@ -41,25 +41,33 @@ pub fn on_enter_image(b: Whole) -> Whole
 pub fn captured_length(c: Context) -> usize
     ensures { result ≡ c.buffers.end - c.buffers.start }
 {
-    let from = c.buffers.start;
-    let to = c.buffers.end;
-    if to < from {
-        return 0;
-    }
-    to - from
+    c.buffers.end.saturating_sub(c.buffers.start)
 }
 
-pub fn on_exit_label(b: Whole, work: &mut [u8], starts: &[usize]) -> Whole
-    ensures { OnWork Roomy Any on_exit_label b work.old starts.now result work.new }
+// What was captured becomes a part of the newest medium, as `store` has it: by the work bytes, the place of the first and their count.
+fn store_by<F: FnOnce(Links, &mut [u8], usize, usize) -> Links>(
+    b: Whole,
+    work: &mut [u8],
+    starts: &[usize],
+    store: F,
+) -> Whole
+    requires { F.IsAlwaysCallable store }
+    ensures { StoresBy (F.post store) b work.old starts.now result work.new }
 {
     let mut r = b;
     let mut c = b.context;
     let from = c.buffers.start;
     let n = captured_length(c);
-    r.links = state_media::store_label(b.links, work, from, n);
+    r.links = store(b.links, work, from, n);
     c.buffers = state_buffers::drop(b.context.buffers, starts);
     r.context = c;
     r
+}
+
+pub fn on_exit_label(b: Whole, work: &mut [u8], starts: &[usize]) -> Whole
+    ensures { OnWork Roomy Any on_exit_label b work.old starts.now result work.new }
+{
+    store_by(b, work, starts, state_media::store_label)
 }
 
 pub fn on_exit_label_text(b: Whole, e: Event) -> Whole
@@ -115,27 +123,15 @@ pub fn on_enter_destination_string(c: Context, starts: &mut [usize]) -> Context
 pub fn store_destination(b: Whole, work: &mut [u8], starts: &[usize]) -> Whole
     ensures { OnWork Roomy Any (store destination ▸ set encode true) b work.old starts.now result work.new }
 {
-    let mut r = b;
-    let mut c = b.context;
-    let from = c.buffers.start;
-    let n = captured_length(c);
-    r.links = state_media::store_destination(b.links, work, from, n);
-    c.buffers = state_buffers::drop(b.context.buffers, starts);
-    r.context = state_context::set_encode(c, true);
+    let mut r = store_by(b, work, starts, state_media::store_destination);
+    r.context = state_context::set_encode(r.context, true);
     r
 }
 
 pub fn store_title(b: Whole, work: &mut [u8], starts: &[usize]) -> Whole
     ensures { OnWork Roomy Any (store M.title) b work.old starts.now result work.new }
 {
-    let mut r = b;
-    let mut c = b.context;
-    let from = c.buffers.start;
-    let n = captured_length(c);
-    r.links = state_media::store_title(b.links, work, from, n);
-    c.buffers = state_buffers::drop(b.context.buffers, starts);
-    r.context = c;
-    r
+    store_by(b, work, starts, state_media::store_title)
 }
 
 pub fn on_exit_resource_destination_string(b: Whole, work: &mut [u8], starts: &[usize]) -> Whole

@@ -1,5 +1,5 @@
 -- The attribute of a list's start, which the event's slice says. Assumes nothing.
-use Rattle.std.specs.Prelude.{if◌then◌else◌}
+use Rattle.std.specs.Prelude.{if◌then◌else◌, ◌⊎◌}
 use mathlib.Core.Path.{◌≡◌, refl, sym, ◌∙◌}
 use mathlib.Core.Bool.{Bool, true, false, ◌&&◌}
 use mathlib.Core.List.{List}
@@ -26,7 +26,7 @@ use Rattle.write_pieces.specs.Pieces.{PushesStart}
 use Rattle.state_context.specs.declared.Context.{Context}
 use Rattle.state_context.specs.Rel.{Sees, Keeps}
 use Rattle.state_context.proofs.Laws.{with_buffers, rel-buffers, pushed}
-use Rattle.state_context.proofs.Slices.{Sliced, own-slice}
+use Rattle.state_context.proofs.Slices.{Sliced, own-slice, no-slice}
 
 module _ (text : List ℕ) (e : Event) where
   record Started (s u : State) : Type 0 where
@@ -46,16 +46,13 @@ module _ (text : List ℕ) (e : Event) where
       record { part = g.0; value = f.0; is-part = own-slice text e t g.0 v g.1; is-value = g.2; came = cc }
 
   module _ {c : Context} {w o : List ℕ} where
-    pub start_back : e.to.0 < e.from.0 → Keeps (Sees text e) start c w o c w o
-    start_back h = record { keeps = λ t b s u v x p. absurd (omega (arith, (started t s u v p).is-part.ordered)) }
+    pub no-start : (e.to.0 < e.from.0) ⊎ (length text < e.to.0) → Keeps (Sees text e) start c w o c w o
+    no-start h = record { keeps = λ t b s u v x p. absurd (no-slice h (started t s u v p).is-part) }
 
-    pub start-out : length text < e.to.0 → Keeps (Sees text e) start c w o c w o
-    start-out h = record { keeps = λ t b s u v x p. absurd (omega (arith, (started t s u v p).is-part.inside)) }
-
-    pub starts : {x : Buffers} {w' o' : List ℕ} → PushesStart (take (e.to.0 - e.from.0) (drop e.from.0 text)) c.buffers w o x w' o' → Keeps (Sees text e) start c w o (with_buffers x c) w' o'
-    starts k = record {
+    pub starts : {z : List ℕ} {x : Buffers} {w' o' : List ℕ} → z ≡ take (e.to.0 - e.from.0) (drop e.from.0 text) → PushesStart z c.buffers w o x w' o' → Keeps (Sees text e) start c w o (with_buffers x c) w' o'
+    starts {z} i k = record {
       keeps = λ t b s u v y p.
           let f = started t s u v p in
-          let q : start_of (take (e.to.0 - e.from.0) (drop e.from.0 text)) ≡ go f.value = rw (← f.is-part.bytes) f.is-value in
+          let q : start_of z ≡ go f.value = rw (i, ← f.is-part.bytes) f.is-value in
           rw (← f.came) (rel-buffers y (pushed f.value s) ((k.pushes f.value q).keeps b s y.stand));
     }

@@ -77,16 +77,11 @@ pub fn on_enter_list_item_marker(c: Context, captures: &mut [u8], out: &mut [u8]
 fn push_start(c: Context, text: &[u8], e: Event, captures: &mut [u8], out: &mut [u8]) -> Context
     ensures { Keeps (Sees text.now e) start c captures.old out.old result captures.new out.new }
 {
-    let from = e.from.0;
-    let to = e.to.0;
-    if to < from {
+    let Some(s) = text.get(e.from.0..e.to.0) else {
         return c;
-    }
-    if text.len() < to {
-        return c;
-    }
+    };
     let mut r = c;
-    r.buffers = write_pieces::push_start(c.buffers, captures, out, &text[from..to]);
+    r.buffers = write_pieces::push_start(c.buffers, captures, out, s);
     r
 }
 

@@ -1,10 +1,6 @@
 -- A label, as the machine and the code show them. Assumes nothing.
-use mathlib.Core.Path.{◌≡◌}
-use mathlib.Core.List.{List, ◌∷◌}
-use mathlib.Core.Option.{Option, none, some}
-use Prim.Native.Nat.{ℕ}
-use native.Mathlib.Omega.{arith}
-use lib.ListN.{length}
+use Rattle.std.proofs.Common.{Some, None, ◌≡◌, List, ◌∷◌, ℕ, arith, length}
+use Rattle.std.proofs.Math.Option.{Option, none, some}
 use Rattle.regions.specs.Sizes.{held_at}
 use Rattle.machine.specs.State as State
 use Rattle.machine.specs.State.{State}
@@ -19,7 +15,6 @@ use Rattle.machine_bounded.specs.Within.{within}
 use Rattle.machine_bounded.proofs.Bounds.{wrote}
 use Rattle.regions.specs.Regions.{region_at}
 use Rattle.state_media.specs.declared.Piece.{Piece}
-use Rattle.state_media.specs.declared.Text.TheVariants as T
 use Rattle.state_media.specs.Links.{PieceIs, TextIs}
 use Rattle.state_whole.specs.declared.Whole.{Whole}
 use Rattle.state_whole.specs.Whole.{Held, OnPage}
@@ -52,16 +47,16 @@ label-bytes t ds m c p = on m.label p
     on none q = never q
     on (some d) q = cc
 
-unset-not : {X : Type 0} (region : List ℕ) (end : ℕ) (o : Option (List ℕ)) (c : List ℕ) → TextIs region end T.Unset o → o ≡ some c → X
+unset-not : {X : Type 0} (region : List ℕ) (end : ℕ) (o : Option (List ℕ)) (c : List ℕ) → TextIs region end None o → o ≡ some c → X
 unset-not region end none c k p = let z : ◌≡◌ {A = ℕ} 0 1 = cc in absurd (omega arith)
 unset-not region end (some d) c k p = absurd k
 
-pub text-piece : (region : List ℕ) (end : ℕ) (p : Piece) (o : Option (List ℕ)) (c : List ℕ) → TextIs region end (T.Is p) o → o ≡ some c → PieceIs region end p c
+pub text-piece : (region : List ℕ) (end : ℕ) (p : Piece) (o : Option (List ℕ)) (c : List ℕ) → TextIs region end (Some p) o → o ≡ some c → PieceIs region end p c
 text-piece region end p none c k q = absurd k
 text-piece region end p (some d) c k q = let e : d ≡ c = cc in rw (← e) k
 
 module _ {View : Turn → Type 0} {b : Whole} {work out : List ℕ} where
-  pub label-unset : b.links.media.label ≡ T.Unset → OnPage Held View (show label) b work out b work out
+  pub label-unset : b.links.media.label ≡ None → OnPage Held View (show label) b work out b work out
   label-unset e = record {
     on-page = λ text w i j. record {
       handles = λ t s u v a y p.
@@ -71,7 +66,7 @@ module _ {View : Turn → Type 0} {b : Whole} {work out : List ℕ} where
     };
   }
 
-  pub label-shown : {p : Piece} {r : Whole} {work' out' : List ℕ} → b.links.media.label ≡ T.Is p → WritesPiece as_is held_at p.place p.length b work out r work' out' → OnPage Held View (show label) b work out r work' out'
+  pub label-shown : {p : Piece} {r : Whole} {work' out' : List ℕ} → b.links.media.label ≡ Some p → WritesPiece as_is held_at p.place p.length b work out r work' out' → OnPage Held View (show label) b work out r work' out'
   label-shown {p} e k = record {
     on-page = λ text w i j. record {
       handles = λ t s u v a y q.

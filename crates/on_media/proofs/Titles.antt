@@ -1,17 +1,12 @@
 -- A title, as the machine and the code show it. Assumes nothing.
-use mathlib.Core.Path.{◌≡◌, refl, sym, ap, ◌∙◌}
-use mathlib.Core.List.{List, []}
-use mathlib.Core.Option.{Option, none, some}
-use Prim.Native.Nat.{ℕ, zero, suc, min, ◌+◌, ◌-◌, ◌≤◌}
-use native.Mathlib.Omega.{arith}
-use lib.ListN.{length, get_or}
+use Rattle.std.proofs.Common.{Some, None, ◌≡◌, refl, sym, ap, ◌∙◌, List, [], ℕ, zero, suc, min, ◌+◌, ◌-◌, ◌≤◌, arith, length, get_or}
+use Rattle.std.proofs.Math.Option.{Option, none, some}
 use Rattle.regions.specs.Sizes.{region_size, held_at, kept_at}
 use Rattle.machine.specs.State.{State}
 use Rattle.machine.specs.Buffers.{push}
 use Rattle.machine.specs.Media.{title, title_text, or_none}
 use Rattle.regions.specs.Regions.{region_at}
 use Rattle.state_media.specs.declared.Piece.{Piece}
-use Rattle.state_media.specs.declared.Text.TheVariants as T
 use Rattle.state_media.specs.Links.{PieceIs, TextIs}
 use Rattle.state_kept.specs.Kept as Kept
 use Rattle.state_kept.specs.Kept.{column, Optional, DefinitionIs}
@@ -29,16 +24,16 @@ title-none s o e = ap (λ (x : Option (List ℕ)). push (or_none x title_text) s
 title-some : (s : State) (o : Option (List ℕ)) (c : List ℕ) → o ≡ some c → push (title_text c) s ≡ push (or_none o title_text) s
 title-some s o c e = ap (λ (x : Option (List ℕ)). push (or_none x title_text) s) (sym e)
 
-unset-none : (region : List ℕ) (end : ℕ) (o : Option (List ℕ)) → TextIs region end T.Unset o → o ≡ none
+unset-none : (region : List ℕ) (end : ℕ) (o : Option (List ℕ)) → TextIs region end None o → o ≡ none
 unset-none region end none k = refl
 unset-none region end (some c) k = absurd k
 
-is_some : (region : List ℕ) (end : ℕ) (p : Piece) (o : Option (List ℕ)) → TextIs region end (T.Is p) o → (c : List ℕ) × (o ≡ some c) × PieceIs region end p c
+is_some : (region : List ℕ) (end : ℕ) (p : Piece) (o : Option (List ℕ)) → TextIs region end (Some p) o → (c : List ℕ) × (o ≡ some c) × PieceIs region end p c
 is_some region end p none k = absurd k
 is_some region end p (some c) k = (c, refl, k)
 
 module _ {b : Whole} {work out : List ℕ} where
-  pub own-unset : b.links.media.title ≡ T.Unset → ShowsOwnTitle b work out b work out
+  pub own-unset : b.links.media.title ≡ None → ShowsOwnTitle b work out b work out
   own-unset e = record {
     shows = λ text w s m ms i j a y q.
         let x = (newest-is a y q).title in
@@ -47,7 +42,7 @@ module _ {b : Whole} {work out : List ℕ} where
         rw (← g) (unwritten i j y);
   }
 
-  pub own-shown : {p : Piece} {r : Whole} {work' out' : List ℕ} → b.links.media.title ≡ T.Is p → WritesPiece title_text held_at p.place p.length b work out r work' out' → ShowsOwnTitle b work out r work' out'
+  pub own-shown : {p : Piece} {r : Whole} {work' out' : List ℕ} → b.links.media.title ≡ Some p → WritesPiece title_text held_at p.place p.length b work out r work' out' → ShowsOwnTitle b work out r work' out'
   own-shown {p} e k = record {
     shows = λ text w s m ms i j a y q.
         let x = (newest-is a y q).title in

@@ -19,7 +19,7 @@ ghost use Rattle.machine.specs.OnMedia.{on_exit_media};
 ghost use Rattle.on_media.specs.Media.{ReadsBy, OnMedia};
 
 use machine::Options;
-use state_media::{Destination, Text};
+use state_media::Destination;
 use state_whole::Whole;
 
 // ---- the parts, written
@@ -113,8 +113,8 @@ pub fn show_label(b: Whole, work: &mut [u8], out: &mut [u8]) -> Whole
     let m = l.media;
     let x = m.label;
     match x {
-        Text::Unset => b,
-        Text::Is(p) => write_piece(b, work, out, regions::HELD_AT, p.place, p.length),
+        None => b,
+        Some(p) => write_piece(b, work, out, regions::HELD_AT, p.place, p.length),
     }
 }
 
@@ -158,8 +158,8 @@ fn show_own_title(b: Whole, work: &mut [u8], out: &mut [u8]) -> Whole
     let m = l.media;
     let x = m.title;
     match x {
-        Text::Unset => b,
-        Text::Is(p) => write_title(b, work, out, regions::HELD_AT, p.place, p.length),
+        None => b,
+        Some(p) => write_title(b, work, out, regions::HELD_AT, p.place, p.length),
     }
 }
 

@@ -1,4 +1,5 @@
 -- A setext heading's text is held, and released. Assumes nothing.
+use Rattle.std.specs.Prelude.{Some, None}
 use mathlib.Core.Path.{◌≡◌, refl, sym, ap, ◌∙◌}
 use mathlib.Core.List.{List}
 use mathlib.Core.Option.{Option, none, some}
@@ -24,7 +25,6 @@ use Rattle.state_buffers.specs.declared.Buffers.{Buffers}
 use Rattle.state_context.proofs.Laws.{with_buffers}
 use Rattle.state_media.specs.declared.Links.{Links}
 use Rattle.state_media.specs.declared.Piece.{Piece}
-use Rattle.state_media.specs.declared.Text.TheVariants as T
 use Rattle.state_media.specs.Links.{PieceIs, TextIs, Releases}
 use Rattle.state_whole.specs.declared.Whole.{Whole}
 use Rattle.state_whole.specs.Whole.{World, Mirrors, Held, OnPage, with_links, with_context}
@@ -47,16 +47,16 @@ module _ {b : Whole} {w : World} {text : List ℕ} {s : State} where
     kept = keeps_same refl refl y.kept;
   }
 
-text-there : (region : List ℕ) (end : ℕ) (p : Piece) (o : Option (List ℕ)) (u : State) (f : List ℕ → Outcome State) → TextIs region end (T.Is p) o → (need o >>= f) ≡ go u → (c : List ℕ) × PieceIs region end p c × (f c ≡ go u)
+text-there : (region : List ℕ) (end : ℕ) (p : Piece) (o : Option (List ℕ)) (u : State) (f : List ℕ → Outcome State) → TextIs region end (Some p) o → (need o >>= f) ≡ go u → (c : List ℕ) × PieceIs region end p c × (f c ≡ go u)
 text-there region end p none u f x q = absurd x
 text-there region end p (some c) u f x q = (c, x, q)
 
-text-not-there : {X : Type 0} (region : List ℕ) (end : ℕ) (o : Option (List ℕ)) (u : State) (f : List ℕ → Outcome State) → TextIs region end T.Unset o → (need o >>= f) ≡ go u → X
+text-not-there : {X : Type 0} (region : List ℕ) (end : ℕ) (o : Option (List ℕ)) (u : State) (f : List ℕ → Outcome State) → TextIs region end None o → (need o >>= f) ≡ go u → X
 text-not-there region end none u f x q = never q
 text-not-there region end (some c) u f x q = absurd x
 
 module _ {View : Turn → Type 0} {b : Whole} {work out : List ℕ} where
-  pub not-held : b.links.setext ≡ T.Unset → OnPage Held View release b work out b work out
+  pub not-held : b.links.setext ≡ None → OnPage Held View release b work out b work out
   unfolding within exec
   not-held h = record {
     on-page = λ text w i j. record {
@@ -67,7 +67,7 @@ module _ {View : Turn → Type 0} {b : Whole} {work out : List ℕ} where
     };
   }
 
-  pub releases : {p : Piece} {x : Buffers} {l : Links} {work' out' : List ℕ} → b.links.setext ≡ T.Is p → ShowsPiece as_is region_size p.place p.length b.context.buffers work out x work' out' → length work' ≡ length work → Releases b.links l
+  pub releases : {p : Piece} {x : Buffers} {l : Links} {work' out' : List ℕ} → b.links.setext ≡ Some p → ShowsPiece as_is region_size p.place p.length b.context.buffers work out x work' out' → length work' ≡ length work → Releases b.links l
       → OnPage Held View release b work out (with_links l (with_context (with_buffers x b.context) b)) work' out'
   unfolding within exec
   releases {p} {x} {l} {work'} {out'} h k n r = record {

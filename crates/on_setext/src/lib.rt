@@ -10,7 +10,6 @@ ghost use Rattle.on_setext.specs.Setext.{Underlined, TellsDash};
 
 use event::Event;
 use state_context::Context;
-use state_media::Text;
 use state_whole::Whole;
 
 pub fn on_exit_heading_setext_text(b: Whole, work: &mut [u8], starts: &[usize]) -> Whole
@@ -94,8 +93,8 @@ fn release_text(b: Whole, work: &mut [u8], out: &mut [u8]) -> Whole
     let l = b.links;
     let setext = l.setext;
     match setext {
-        Text::Unset => b,
-        Text::Is(p) => {
+        None => b,
+        Some(p) => {
             let mut r = b;
             let mut c = b.context;
             c.buffers = write_held::push_piece(

@@ -74,18 +74,12 @@ module _ {c : Context} where
         sym q ∙ asked c.table n s.table f.0 e x.table f.1;
   }
 
-  lacking : (m : ℕ) → m ≡ columns_of (enter_of c.table.extra) - c.table.column → Lacks c m
+  pub lacking : (m : ℕ) → m ≡ columns_of (enter_of c.table.extra) - c.table.column → Lacks c m
   lacking m e = record {
     lacks = λ w o b aligns s x p.
         let k = known c.table aligns (x.table.aligns ∙ p) in
         omega (arith, k.many, k.few, x.table.column);
   }
-
-  pub lacks-none : (n : ℕ) → n ≡ columns_of (enter_of c.table.extra) → n ≤ c.table.column → Lacks c 0
-  lacks-none n e h = lacking 0 (omega arith)
-
-  pub lacks-some : (n : ℕ) → n ≡ columns_of (enter_of c.table.extra) → Lacks c (n - c.table.column)
-  lacks-some n e = lacking (n - c.table.column) (rw e)
 
 -- ---- a column's alignment
 

@@ -9,7 +9,7 @@ ghost use Rattle.state_context.specs.Rel.{Any, Keeps, Sets, SetsFor, Tells, ente
 ghost use Rattle.on_table.specs.Table.{IsEvent, Lacks};
 ghost use Rattle.machine.specs.OnTable.{on_enter_gfm_table, on_exit_gfm_table, on_enter_gfm_table_head, on_exit_gfm_table_head, on_enter_gfm_table_body, on_exit_gfm_table_body};
 
-use event::{BytePlace, Event};
+use event::Event;
 use state_context::Context;
 
 // ---- the table that is open: its columns, the one of the next cell, and how a cell in it is aligned
@@ -60,16 +60,7 @@ pub fn next_column(c: Context) -> Context
 fn columns_in(extra: u64) -> usize
     ensures { result ≡ columns_of (enter_of extra) }
 {
-    let enter = Event {
-        kind: Event::ENTER,
-        name: Event::GFM_TABLE,
-        before: 0,
-        after: 0,
-        from: BytePlace(0),
-        to: BytePlace(0),
-        extra,
-    };
-    enter.columns()
+    write_pieces::table_enter(extra).columns()
 }
 
 // Whether the next cell is past the columns.
@@ -84,12 +75,7 @@ pub fn is_past_columns(c: Context) -> bool
 pub fn missing(c: Context) -> usize
     ensures { Lacks c result }
 {
-    let n = columns_in(c.table.extra);
-    let column = c.table.column;
-    if n <= column {
-        return 0;
-    }
-    n - column
+    columns_in(c.table.extra).saturating_sub(c.table.column)
 }
 
 // The attribute of a cell in the column.

@@ -1,4 +1,5 @@
 -- What a character reference stands for, by the marker that waits. Assumes nothing.
+use Rattle.std.specs.Prelude.{◌⊎◌, Option as CodeOption, Some, None}
 use mathlib.Core.Path.{◌≡◌, ap}
 use mathlib.Core.Bool.{true}
 use mathlib.Core.List.{List}
@@ -25,13 +26,11 @@ use Rattle.machine_bounded.specs.Within.{within}
 use Rattle.machine_bounded.proofs.Bounds.{done}
 use Rattle.state_buffers.specs.declared.Buffers.{Buffers}
 use Rattle.write_pieces.specs.Pieces.{PushesReference}
-use Rattle.state_context.specs.declared.Mark.{Mark}
-use Rattle.state_context.specs.declared.Mark.TheVariants as M
 use Rattle.state_context.specs.declared.Context.{Context}
 use Rattle.state_context.specs.Rel.{Rel, Sees, Keeps, MarkIs, ForgetsMarker, names_in, escaping_in}
 use Rattle.state_context.proofs.Laws.{with_buffers, rel-buffers, pushed}
 use Rattle.state_context.proofs.Constants.{escaping-told}
-use Rattle.state_context.proofs.Slices.{Sliced}
+use Rattle.state_context.proofs.Slices.{Sliced, no-slice}
 use Rattle.on_inline.proofs.Own.{slice_in, own}
 
 -- what is needed is there
@@ -72,13 +71,10 @@ module _ (text : List ℕ) (e : Event) where
       }
 
   module _ {c : Context} {w o : List ℕ} where
-    pub reference-back : e.to.0 < e.from.0 → Keeps (Sees text e) reference c w o c w o
-    reference-back h = record { keeps = λ t b s u v x p. (let k = (went t s u v p).slice.ordered in absurd (omega arith)) }
+    pub no-reference : (e.to.0 < e.from.0) ⊎ (length text < e.to.0) → Keeps (Sees text e) reference c w o c w o
+    no-reference h = record { keeps = λ t b s u v x p. absurd (no-slice h (went t s u v p).slice) }
 
-    pub reference-out : length text < e.to.0 → Keeps (Sees text e) reference c w o c w o
-    reference-out h = record { keeps = λ t b s u v x p. (let k = (went t s u v p).slice.inside in absurd (omega arith)) }
-
-    pub no-marker : {m : Mark} → MarkIs c m → m ≡ M.Unset → Keeps (Sees text e) reference c w o c w o
+    pub no-marker : {m : CodeOption Marker} → MarkIs c m → m ≡ None → Keeps (Sees text e) reference c w o c w o
     no-marker a q = record {
       keeps = λ t b s u v x p.
           let k = (went t s u v p).waits in
@@ -86,10 +82,11 @@ module _ (text : List ℕ) (e : Event) where
           let z : ◌≡◌ {A = ℕ} 0 1 = cc in absurd (omega arith);
     }
 
-    pub refers : {n : Mark} {r : Context} {y : Escaping} {x : Buffers} {w' o' : List ℕ} {names : Names} (m : Marker) → MarkIs c n → n ≡ M.Is m → names ≡ names_in c.word → ForgetsMarker c r → y ≡ escaping_in c.word → PushesReference names m (slice_in text e) y r.buffers w o x w' o'
+    pub refers : {n : CodeOption Marker} {r : Context} {y : Escaping} {x : Buffers} {w' o' : List ℕ} {names : Names} {z : List ℕ} (m : Marker) → z ≡ slice_in text e → MarkIs c n → n ≡ Some m → names ≡ names_in c.word → ForgetsMarker c r → y ≡ escaping_in c.word → PushesReference names m z y r.buffers w o x w' o'
         → Keeps (Sees text e) reference c w o (with_buffers x r) w' o'
-    refers {y = y} {names = names} m a q j f d k = record {
+    refers {y = y} {names = names} {z = z} m i a q j f d k0 = record {
       keeps = λ t b s u v x p.
+          let k = rw i at k0 in
           let g = went t s u v p in
           let h : some m ≡ s.waiting.marker = rw q at (a.mark-is w o b s x) in
           let i : m ≡ g.mark = (let j = g.waits in cc) in

@@ -7,7 +7,7 @@ ghost use Rattle.machine.specs.Test.{is};
 
 use character_reference::Marker;
 use event::Event;
-use state_context::{Context, Mark};
+use state_context::Context;
 
 pub fn on_exit_html(c: Context) -> Context
     ensures { Sets on_exit_html c result }
@@ -87,30 +87,16 @@ pub fn on_exit_character_reference_value(
 ) -> Context
     ensures { Keeps (Sees text.now e) on_exit_character_reference_value c captures.old out.old result captures.new out.new }
 {
-    let from = e.from.0;
-    let to = e.to.0;
-    if to < from {
+    let Some(s) = text.get(e.from.0..e.to.0) else {
         return c;
-    }
-    if text.len() < to {
-        return c;
-    }
-    let x = state_context::waiting_marker(c);
-    let Mark::Is(m) = x else {
+    };
+    let Some(m) = state_context::waiting_marker(c) else {
         return c;
     };
     let names = state_context::names_in(c);
     let mut r = state_context::forget_marker(c);
     let escaping = state_context::escaping_in(c);
-    r.buffers = write_pieces::push_reference(
-        r.buffers,
-        captures,
-        out,
-        names,
-        m,
-        &text[from..to],
-        escaping,
-    );
+    r.buffers = write_pieces::push_reference(r.buffers, captures, out, names, m, s, escaping);
     r
 }
 

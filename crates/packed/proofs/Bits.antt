@@ -1,15 +1,8 @@
 -- One answer more and one fewer, in bits. Assumes nothing.
-use mathlib.Core.Path.{◌≡◌, refl, sym, ap, ◌∙◌}
-use mathlib.Core.Bool.{Bool, true, false, not, ◌||◌}
-use mathlib.Core.List.{List, [], ◌∷◌}
-use Prim.Native.Nat.{ℕ, zero, suc, ◌+◌, ◌-◌, ◌/◌, ◌%◌, ◌*◌, ◌^◌, ◌≤◌, ◌<◌}
-use native.Mathlib.Decide.{dec_le}
-use native.Mathlib.Omega.{arith}
-use native.Mathlib.Numerals.{add-one}
-use borrow.Author.Tests.{ne_eqb, eqb-true, eqb-false}
-use lib.Dec.{eqb}
-use lib.ListN.{length}
-use lib.Pow.{pow_mono, pow-add, shr_lt, low, high}
+use Rattle.std.proofs.Common.{◌≡◌, refl, ap, ◌∙◌, Bool, true, false, not, ◌||◌, List, [], ◌∷◌, ℕ, zero, suc, ◌+◌, ◌-◌, ◌/◌, ◌%◌, ◌*◌, ◌^◌, ◌≤◌, ◌<◌, arith, add-one, ne_eqb, eqb-true, eqb, length, pow_mono, pow-add, shr_lt}
+use Rattle.std.proofs.Math.Decide.{dec_le}
+use borrow.Author.Tests.{eqb-false}
+use Rattle.std.proofs.Math.Pow.{low, high}
 use Rattle.packed.specs.declared.Tight.{Tight}
 use Rattle.packed.specs.Tight.{answers, Tightened, older, newest_of, any_of, More, Fewer, Newest, Any}
 use Rattle.packed.specs.Private.{bit_of, wider}

@@ -1,12 +1,9 @@
 -- One digit of a word read, and another put in its place. Assumes nothing.
-use mathlib.Core.Path.{◌≡◌, sym, ap, ◌∙◌}
-use Prim.Native.Nat.{ℕ, ◌+◌, ◌-◌, ◌*◌, ◌/◌, ◌%◌, ◌^◌, ◌≤◌, ◌<◌}
-use native.Mathlib.Nat.{mod-lt, mod-eq_of_lt, add-mul}
-use native.Mathlib.Decide.{dec_le}
-use native.Mathlib.Omega.{arith}
-use lib.Arith.{digits_lt, lt_of_le-ne}
-use lib.Bits.{bit_and, and_mask}
-use lib.Pow.{pow_pos, pow-add, shl_exact, shr_lt, shr-shr, split, high, low, field, mod-mod-pow}
+use Rattle.std.proofs.Common.{◌≡◌, sym, ap, ◌∙◌, ℕ, ◌+◌, ◌-◌, ◌*◌, ◌/◌, ◌%◌, ◌^◌, ◌≤◌, ◌<◌, mod-lt, mod-eq_of_lt, add-mul, arith, bit_and, pow_pos, pow-add, shl_exact, shr_lt, shr-shr}
+use Rattle.std.proofs.Math.Decide.{dec_le}
+use Rattle.std.proofs.Math.Arith.{digits_lt, lt_of_le-ne}
+use lib.Bits.{and_mask}
+use Rattle.std.proofs.Math.Pow.{split, high, low, field, mod-mod-pow}
 use Rattle.packed.specs.Word.{digit_of, Placed}
 
 -- ---- read

@@ -14,66 +14,69 @@ pub struct Tight {
     pub count: usize,
 }
 
-// One more.
-pub fn more(t: Tight, x: bool) -> Tight
-    ensures { More x t result }
-{
-    let n = t.count;
-    let old = t.bits;
-    if 63 < n {
-        return t;
+impl Tight {
+    // One more.
+    pub fn more(self, x: bool) -> Self
+        ensures { More x self result }
+    {
+        let n = self.count;
+        let old = self.bits;
+        if 63 < n {
+            return self;
+        }
+        if 0x7FFF_FFFF_FFFF_FFFF < old {
+            return self;
+        }
+        self.with_bit(x)
     }
-    if 0x7FFF_FFFF_FFFF_FFFF < old {
-        return t;
-    }
-    with_bit(t, x)
-}
 
-// The newest in the lowest bit.
-fn with_bit(t: Tight, x: bool) -> Tight
-    requires { (t.bits < 2 ^ 63) × (t.count < 64) }
-    ensures { result ≡ wider x t }
-{
-    let count = t.count + 1;
-    let bits = t.bits * 2;
-    if x {
-        return Tight {
-            bits: bits + 1,
-            count,
-        };
+    // The newest in the lowest bit.
+    fn with_bit(self, x: bool) -> Self
+        requires { (self.bits < 2 ^ 63) × (self.count < 64) }
+        ensures { result ≡ wider x self }
+    {
+        let count = self.count + 1;
+        let bits = self.bits * 2;
+        if x {
+            return Self {
+                bits: bits + 1,
+                count,
+            };
+        }
+        Self { bits, count }
     }
-    Tight { bits, count }
-}
 
-// The newest goes.
-pub fn fewer(t: Tight) -> Tight
-    ensures { Fewer t result }
-{
-    let n = t.count;
-    if n == 0 {
-        return t;
+    // The newest goes.
+    pub fn fewer(self) -> Self
+        ensures { Fewer self result }
+    {
+        let n = self.count;
+        if n == 0 {
+            return self;
+        }
+        Self {
+            bits: self.bits / 2,
+            count: n - 1,
+        }
     }
-    Tight {
-        bits: t.bits / 2,
-        count: n - 1,
-    }
-}
 
-// The newest; where there is none, no.
-pub fn newest(t: Tight) -> bool
-    ensures { Newest t result }
-{
-    if t.count == 0 {
-        return false;
+    // The newest; where there is none, no.
+    pub fn newest(self) -> bool
+        ensures { Newest self result }
+    {
+        let n = self.count;
+        if n == 0 {
+            return false;
+        }
+        self.bits % 2 == 1
     }
-    t.bits % 2 == 1
-}
 
-// Whether any is yes.
-pub fn any(t: Tight) -> bool
-    ensures { Any t result }
-{
-    t.bits != 0
+    // Whether any is yes.
+    pub fn any(self) -> bool
+        ensures { Any self result }
+    {
+        self.bits != 0
+    }
 }
 
 // ---- the digits: answers that are kept together, so that a store of one is no narrower than a read of all

@@ -1,33 +1,26 @@
 -- Two results that meet a public call's promise are equal: one law for each call, under its name. Assumes nothing.
-use mathlib.Core.Path.{◌≡◌, sym, ◌∙◌}
-use mathlib.Core.Bool.{Bool}
-use mathlib.Core.List.{List}
-use Prim.Native.Nat.{ℕ}
-use Rattle.call_text_answer.specs.declared.Written.{Written}
+use Rattle.std.proofs.Common.{◌≡◌, Bool, List, ℕ, Result, sym, ◌∙◌}
+use Rattle.call_text_answer.specs.declared.Refusal.{Refusal}
 use Rattle.call_text_answer.specs.Written.{number_of, value_of, Wrote}
 use Rattle.call_text_answer.proofs.Laws as W
-use Rattle.call_normalize.specs.declared.Normalized.{Normalized}
+use Rattle.call_normalize.specs.declared.Url.{Url}
 use Rattle.call_normalize.specs.Normalized.{HasNormalized}
 use Rattle.call_normalize.proofs.Laws as N
-use Rattle.call_links_answer.specs.declared.Listed.{Listed}
+use Rattle.call_links_answer.specs.declared.Refusal.{Refusal as ListRefusal}
 use Rattle.call_links_answer.specs.Listed.{Lists}
 use Rattle.call_links_answer.proofs.Promise as L
-use Rattle.check_list.specs.declared.Checked.{Checked}
-use Rattle.check_list.specs.Checked.{Checks}
+use Rattle.check_list.specs.Checked.{Checked, Checks}
 use Rattle.check_list.proofs.Numbers as C
 use Rattle.machine.specs.declared.Options.{Options}
-use Rattle.call_build_answer.specs.declared.Built.{Built}
+use Rattle.call_build_answer.specs.Built.{Built}
 use Rattle.call_build.specs.Build.{Builds}
 use Rattle.call_build.proofs.Exactly as B
-use Rattle.bundle_read.specs.declared.Answer.{Answer}
-use Rattle.bundle_read.specs.Read.{HasRead}
+use Rattle.bundle_read.specs.Read.{Answer, HasRead}
 use Rattle.bundle_read.proofs.Bundle as R
-use Rattle.bundle_writer.specs.declared.Packed.{Packed}
-use Rattle.bundle_writer.specs.Packed.{HasPacked}
+use Rattle.bundle_writer.specs.Packed.{Packed, HasPacked}
 use Rattle.bundle_writer.proofs.Call as P
-use Rattle.bundle_parts.specs.declared.Progress.{Progress}
 use Rattle.bundle_parts.specs.declared.Reader.{Reader}
-use Rattle.bundle_parts.specs.Feed.{Stand, stand_of, start_of, feed_of, end_of}
+use Rattle.bundle_parts.specs.Feed.{Progress, Stand, stand_of, start_of, feed_of, end_of}
 use Rattle.bundle_parts.proofs.Parts as S
 
 -- where the promise is an equation: the numbers, values and places of every answer too
@@ -35,13 +28,13 @@ pub equal : {A : Type 0} {x r s : A} → r ≡ x → s ≡ x → r ≡ s
 equal p q = p ∙ sym q
 
 -- escape, sanitize, sanitize_link, sanitize_image, identity
-pub texts : {text result d e f : List ℕ} {r s : Written} → Wrote text result d e r → Wrote text result d f s → (r ≡ s) × (e ≡ f)
+pub texts : {text result d e f : List ℕ} {r s : Result ℕ Refusal} → Wrote text result d e r → Wrote text result d f s → (r ≡ s) × (e ≡ f)
 texts p q = W.unique p q
 
-pub normalize : {url d e f : List ℕ} {r s : Normalized} → HasNormalized url d e r → HasNormalized url d f s → (r ≡ s) × (e ≡ f)
+pub normalize : {url d e f : List ℕ} {r s : Result Url Refusal} → HasNormalized url d e r → HasNormalized url d f s → (r ≡ s) × (e ≡ f)
 normalize p q = N.unique p q
 
-pub sanitize_links : {on : Bool} {text ends d l e m e' m' : List ℕ} {r s : Listed} → Lists on text ends d l e m r → Lists on text ends d l e' m' s → (r ≡ s) × (e ≡ e') × (m ≡ m')
+pub sanitize_links : {on : Bool} {text ends d l e m e' m' : List ℕ} {r s : Result ℕ ListRefusal} → Lists on text ends d l e m r → Lists on text ends d l e' m' s → (r ≡ s) × (e ≡ e') × (m ≡ m')
 sanitize_links p q = L.unique p q
 
 pub check : {text events : List ℕ} {r s : Checked} → Checks text events r → Checks text events s → r ≡ s
@@ -73,8 +66,8 @@ end_bundle r s stand t e u f p q = S.unique r s t e u f p q
 pub bundle_so_far : (reader : Reader) {r s : Progress} → r ≡ reader.state.progress → s ≡ reader.state.progress → r ≡ s
 bundle_so_far reader p q = equal p q
 
-pub number : (w : Written) {r s : ℕ} → r ≡ number_of w → s ≡ number_of w → r ≡ s
+pub number : (w : Result ℕ Refusal) {r s : ℕ} → r ≡ number_of w → s ≡ number_of w → r ≡ s
 number w p q = equal p q
 
-pub value : (w : Written) {r s : ℕ} → r ≡ value_of w → s ≡ value_of w → r ≡ s
+pub value : (w : Result ℕ Refusal) {r s : ℕ} → r ≡ value_of w → s ≡ value_of w → r ≡ s
 value w p q = equal p q

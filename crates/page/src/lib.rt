@@ -15,43 +15,41 @@ ghost use Rattle.call_text_answer.specs.Written.{number_of, value_of, Wrote};
 ghost use Rattle.call_normalize.specs.Normalized.{HasNormalized};
 ghost use Rattle.call_links_answer.specs.Listed.{Lists};
 
-use bundle_parts::{Progress, Reader};
-use bundle_writer::Packed;
-use call_links_answer::Listed;
-use call_normalize::Normalized;
-use call_text_answer::Written;
+use bundle_parts::Reader;
+use call_normalize::Url;
+use call_text_answer::Refusal;
 use encode_byte::Escaping;
 
 // Escapes a text for HTML; with escaping off only NUL is replaced.
-pub fn escape(text: &[u8], escaping: Escaping, out: &mut [u8]) -> Written
+pub fn escape(text: &[u8], escaping: Escaping, out: &mut [u8]) -> Result<usize, Refusal>
     ensures { Wrote text.now (encode_of escaping text.now) out.old out.new result }
 {
     call_text::escape(text, escaping, out)
 }
 
 // Makes a URL safe for an attribute; `'` is escaped where it is asked for.
-pub fn sanitize(url: &[u8], apostrophes: bool, out: &mut [u8]) -> Written
+pub fn sanitize(url: &[u8], apostrophes: bool, out: &mut [u8]) -> Result<usize, Refusal>
     ensures { Wrote url.now (sanitize_of apostrophes url.now) out.old out.new result }
 {
     call_text::sanitize(url, apostrophes, out)
 }
 
 // The same for a link: a URL with another scheme than the six of RULES R11.5 becomes empty.
-pub fn sanitize_link(url: &[u8], apostrophes: bool, out: &mut [u8]) -> Written
+pub fn sanitize_link(url: &[u8], apostrophes: bool, out: &mut [u8]) -> Result<usize, Refusal>
     ensures { Wrote url.now (sanitize_with_protocols_of apostrophes link_schemes url.now) out.old out.new result }
 {
     call_text::sanitize_link(url, apostrophes, out)
 }
 
 // The same for an image, whose schemes are http and https.
-pub fn sanitize_image(url: &[u8], apostrophes: bool, out: &mut [u8]) -> Written
+pub fn sanitize_image(url: &[u8], apostrophes: bool, out: &mut [u8]) -> Result<usize, Refusal>
     ensures { Wrote url.now (sanitize_with_protocols_of apostrophes image_schemes url.now) out.old out.new result }
 {
     call_text::sanitize_image(url, apostrophes, out)
 }
 
 // Percent-encodes a URL, and says how many characters it visited (RULES R11.7).
-pub fn normalize(url: &[u8], out: &mut [u8]) -> Normalized
+pub fn normalize(url: &[u8], out: &mut [u8]) -> Result<Url, Refusal>
     ensures { HasNormalized url.now out.old out.new result }
 {
     call_normalize::normalize(url, out)
@@ -64,21 +62,21 @@ pub fn sanitize_links(
     apostrophes: bool,
     out: &mut [u8],
     lengths: &mut [u32],
-) -> Listed
+) -> Result<usize, call_links_answer::Refusal>
     ensures { Lists apostrophes text.now ends.now out.old lengths.old out.new lengths.new result }
 {
     call_links::sanitize_links(text, ends, apostrophes, out, lengths)
 }
 
 // What a label is compared by.
-pub fn identity(label: &[u8], out: &mut [u8]) -> Written
+pub fn identity(label: &[u8], out: &mut [u8]) -> Result<usize, Refusal>
     ensures { Wrote label.now (identity_of label.now) out.old out.new result }
 {
     call_text::identity(label, out)
 }
 
 // Whether a text and its events meet the rules: RULES R7, refusals 1 to 7.
-pub fn check(text: &[u8], events: &[u8]) -> check_list::Checked
+pub fn check(text: &[u8], events: &[u8]) -> Result<(), check_list::Refusal>
     ensures { Checks text.now events.now result }
 {
     check_list::check(text, events)
@@ -91,21 +89,30 @@ pub fn build(
     options: machine::Options,
     out: &mut [u8],
     work: &mut [u8],
-) -> call_build_answer::Built
+) -> Result<usize, call_build_answer::Refusal>
     ensures { Builds text.now events.now options out.old work.old out.new work.new result }
 {
     call_build::build(text, events, options, out, work)
 }
 
 // Reads the text and the events of a note bundle.
-pub fn read_bundle(bundle: &[u8], text: &mut [u8], events: &mut [u8]) -> bundle_read::Answer
+pub fn read_bundle(
+    bundle: &[u8],
+    text: &mut [u8],
+    events: &mut [u8],
+) -> Result<bundle_read::Contents, bundle_block::Refusal>
     ensures { HasRead bundle.now text.old events.old text.new events.new result }
 {
     bundle_read::read(bundle, text, events)
 }
 
 // Writes the note bundle of a text, events and an edition, with zeros behind it; or a refusal, with nothing in the output.
-pub fn write_bundle(text: &[u8], events: &[u8], edition: u32, out: &mut [u8]) -> Packed
+pub fn write_bundle(
+    text: &[u8],
+    events: &[u8],
+    edition: u32,
+    out: &mut [u8],
+) -> Result<usize, bundle_writer::WriteRefusal>
     ensures { HasPacked text.now events.now edition out.old out.new result }
 {
     bundle_writer::write(text, events, edition, out)
@@ -133,22 +140,22 @@ pub fn end_bundle(reader: Reader, text: &mut [u8], events: &mut [u8]) -> Reader
     bundle_parts::end(reader, text, events)
 }
 
-// Whether more is wanted, or the answer.
-pub fn bundle_so_far(reader: Reader) -> Progress
+// The answer, or none while more is wanted.
+pub fn bundle_so_far(reader: Reader) -> Option<Result<bundle_read::Contents, bundle_block::Refusal>>
     ensures { result ≡ reader.state.progress }
 {
     bundle_parts::so_far(reader)
 }
 
 // An answer's number (RULES R7.1).
-pub fn number(w: Written) -> u32
+pub fn number(w: Result<usize, Refusal>) -> u32
     ensures { result ≡ number_of w }
 {
     call_text_answer::number(w)
 }
 
 // The length, or a refusal's place, which is 0.
-pub fn value(w: Written) -> usize
+pub fn value(w: Result<usize, Refusal>) -> usize
     ensures { result ≡ value_of w }
 {
     call_text_answer::value(w)

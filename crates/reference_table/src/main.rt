@@ -5,10 +5,10 @@
 
 ghost use Rattle.std.specs.Prelude.{◌<◌};
 
-use character_reference::{Marker, Names, Value};
+use character_reference::{Marker, Names};
 use std::alloc::{AllocError, Global};
-use std::io;
 use std::io::Read;
+use std::{fmt, io};
 
 // The most bytes of the input that it takes.
 const MOST_LINES: u64 = 65536;
@@ -21,78 +21,60 @@ enum Kind {
     Other,
 }
 
-fn kind_of(n: u32, v: Value) -> Kind {
-    let Value::Code(c) = v else {
-        return Kind::Other;
-    };
-    if c == n {
-        return Kind::Itself;
+impl fmt::Display for Kind {
+    fn fmt<W: fmt::Write>(&self, f: &mut fmt::Formatter<W>) -> fmt::Result {
+        f.write_str(match self {
+            Kind::Itself => "itself",
+            Kind::Replaced => "replaced",
+            Kind::Other => "other",
+        })
     }
-    if c == 0xFFFD {
-        return Kind::Replaced;
-    }
-    Kind::Other
 }
 
-fn by_hexadecimal(digits: &mut String, n: u32) -> Result<Kind, AllocError> {
-    digits.clear();
-    write!(digits, "{n:x}")?;
-    let value = character_reference::value_of(Names::Html5, Marker::Hexadecimal, digits.as_bytes());
-    Ok(kind_of(n, value))
-}
-
-fn by_decimal(digits: &mut String, n: u32) -> Result<Kind, AllocError> {
-    digits.clear();
-    write!(digits, "{n}")?;
-    let value = character_reference::value_of(Names::Html5, Marker::Decimal, digits.as_bytes());
-    Ok(kind_of(n, value))
+fn kind_of(n: u32, value: Option<u32>) -> Kind {
+    match value {
+        Some(c) if c == n => Kind::Itself,
+        Some(0xFFFD) => Kind::Replaced,
+        _ => Kind::Other,
+    }
 }
 
 // The number's digits are written into the text that is lent.
-fn by(digits: &mut String, base: u32, n: u32) -> Result<Kind, AllocError> {
-    if base == 16 {
-        return by_hexadecimal(digits, n);
+fn by(digits: &mut String, marker: Marker, n: u32) -> Result<Kind, AllocError> {
+    digits.clear();
+    match marker {
+        Marker::Hexadecimal => write!(digits, "{n:x}")?,
+        _ => write!(digits, "{n}")?,
     }
-    by_decimal(digits, n)
-}
-
-fn word_of(kind: Kind) -> &'static str {
-    match kind {
-        Kind::Itself => "itself",
-        Kind::Replaced => "replaced",
-        Kind::Other => "other",
-    }
+    let value = character_reference::value_of(Names::Html5, marker, digits.as_bytes());
+    Ok(kind_of(n, value))
 }
 
 fn write_run(rt: &impl Print, from: u32, to: u32, kind: Kind) -> io::Result<()> {
-    println!(rt; "{from} {to} {}", word_of(kind))
+    println!(rt; "{from} {to} {kind}")
 }
 
-fn write_runs(rt: &impl Print, alloc: Global, base: u32, end: u32) -> io::Result<()>
+fn write_runs(rt: &impl Print, alloc: Global, marker: Marker, end: u32) -> io::Result<()>
     requires { 0 < end }
 {
     let mut digits = String::new(alloc);
     let mut from: u32 = 0;
-    let mut kind = by(&mut digits, base, 0)?;
-    let mut n: u32 = 1;
-    while n < end {
-        let next = by(&mut digits, base, n)?;
+    let mut kind = by(&mut digits, marker, 0)?;
+    for n in 1..end {
+        let next = by(&mut digits, marker, n)?;
         if next != kind {
             write_run(rt, from, n - 1, kind)?;
             from = n;
             kind = next;
-            n += 1;
-            continue;
         }
-        n += 1;
     }
     write_run(rt, from, end - 1, kind)
 }
 
-fn write_code(rt: &impl Print, v: Value) -> io::Result<()> {
-    match v {
-        Value::Code(c) => print!(rt; " {c:x}"),
-        Value::Broken => print!(rt; " none"),
+fn write_code(rt: &impl Print, value: Option<u32>) -> io::Result<()> {
+    match value {
+        Some(c) => print!(rt; " {c:x}"),
+        None => print!(rt; " none"),
     }
 }
 
@@ -100,37 +82,26 @@ fn write_name(rt: &impl Print, s: &[u8]) -> io::Result<()> {
     print!(rt; "&")?;
     rt.write_all(s)?;
     print!(rt; ";")?;
-    write_code(
-        rt,
-        character_reference::value_of(Names::Html4, Marker::Named, s),
-    )?;
-    write_code(
-        rt,
-        character_reference::value_of(Names::Html5, Marker::Named, s),
-    )?;
+    for names in [Names::Html4, Names::Html5] {
+        write_code(rt, character_reference::value_of(names, Marker::Named, s))?;
+    }
     println!(rt;)
 }
 
-// Each line.
+// Each line that ends.
 fn write_names(rt: &impl Print, lines: &[u8]) -> io::Result<()> {
-    let mut from: usize = 0;
-    let mut i: usize = 0;
-    while i < lines.len() {
-        if lines[i] == b'\n' {
-            write_name(rt, &lines[from..i])?;
-            from = i + 1;
-            i += 1;
-            continue;
+    for line in lines.split_inclusive(|b| *b == b'\n') {
+        if let Some(s) = line.strip_suffix(b"\n") {
+            write_name(rt, s)?;
         }
-        i += 1;
     }
     Ok(())
 }
 
 fn main(rt: HostRuntime) -> io::Result<()> {
     let alloc = rt.alloc();
-    write_runs(&rt, alloc, 16, 0x120000)?;
-    write_runs(&rt, alloc, 10, 10_000_000)?;
+    write_runs(&rt, alloc, Marker::Hexadecimal, 0x120000)?;
+    write_runs(&rt, alloc, Marker::Decimal, 10_000_000)?;
     let mut lines = Vec::new(alloc);
     rt.stdin().take(MOST_LINES).read_to_end(&mut lines)?;
     write_names(&rt, &lines)

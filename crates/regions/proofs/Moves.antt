@@ -1,18 +1,10 @@
 -- Bytes copied to a place apart, and what that is to the regions. Assumes nothing.
-use mathlib.Core.Path.{◌≡◌, refl, sym, ap, ◌∙◌}
-use mathlib.Core.Bool.{Bool, true, false, not, ◌&&◌, ◌||◌}
-use mathlib.Core.List.{List}
-use mathlib.Core.Logic.{◌⊎◌, inl, inr}
-use Prim.Native.Nat.{ℕ, ◌+◌, ◌-◌, ◌≤◌, ◌<◌, min}
-use native.Mathlib.Omega.{arith}
-use native.Mathlib.Decide.{dec_le}
-use borrow.Author.Tests.{le-leb, lt-leb, leb-true, not-true, not-false}
-use lib.Dec.{leb}
-use lib.ListN.{length, take, drop, set, get_or, length-take, length-drop, length-set}
-use lib.Seq.{get_or-drop, take-take, take_all}
-use Rattle.lent.specs.Fill.{fill, past, Filled}
-use Rattle.lent.proofs.Laws.{byte-below, rest-behind, front-before, fill-behind, and_left, and_right, fill-before-end, fill-out, fill-cut, length-fill, copied, copy-none, copy-end}
-use Rattle.regions.specs.Regions.{region_at, Carried, Carries}
+use Rattle.std.proofs.Common.{◌≡◌, refl, sym, ap, ◌∙◌, Bool, true, false, not, ◌&&◌, ◌||◌, List, ◌++◌, ◌⊎◌, inl, inr, ℕ, ◌+◌, ◌-◌, ◌≤◌, ◌<◌, min, arith, le-leb, leb-true, leb, length, take, drop, length-take, length-drop, length-append, take-take, take_all, set, get_or, length-set, get_or-drop}
+use Rattle.std.proofs.Math.Decide.{dec_le}
+use borrow.Author.Tests.{lt-leb, not-true, not-false}
+use Rattle.lent.specs.Fill.{fill}
+use Rattle.lent.proofs.Laws.{byte-below, rest-behind, front-before, fill-behind, and_left, and_right, fill-before-end, fill-out, fill-cut, copied, copy-none, copy-end}
+use Rattle.regions.specs.Regions.{region_at, Carries}
 use Rattle.regions.specs.Private.{Apart, is_apart}
 use Rattle.regions.specs.Sizes.{region_size, held_at, kept_at, no_room}
 

@@ -18,16 +18,14 @@ pub const WORK: usize = 3 * SIZE;
 // An end that says that the bytes had no room in their region.
 pub const NO_ROOM: usize = SIZE + 1;
 
-// Copies n bytes to a place apart from them.
+// Copies n bytes to a place apart from them. Byte by byte, and not `copy_within`, which is a call of `memmove`.
 fn copy(w: &mut [u8], from: usize, n: usize, at: usize)
     requires { Apart w.old from n at }
     ensures { w.new ≡ fill w.old at (take n (drop from w.old)) }
 {
-    let mut i = 0;
-    while i < n {
+    for i in 0..n {
         let x = w[from + i];
         w[at + i] = x;
-        i += 1;
     }
 }
 
@@ -36,11 +34,7 @@ fn fitting(at: usize, n: usize) -> usize
     requires { at ≤ region_size }
     ensures { result ≡ min n (region_size - at) }
 {
-    let room = SIZE - at;
-    if room < n {
-        return room;
-    }
-    n
+    n.min(SIZE - at)
 }
 
 // The place behind n bytes, or the one that says that they had no room.
@@ -48,10 +42,7 @@ fn behind(at: usize, n: usize) -> usize
     requires { at ≤ region_size }
     ensures { result ≡ min (at + n) no_room }
 {
-    if SIZE - at < n {
-        return NO_ROOM;
-    }
-    at + n
+    at.saturating_add(n).min(NO_ROOM)
 }
 
 // Whether n bytes at a place lie within the work bytes and outside a region, which lies within them too.

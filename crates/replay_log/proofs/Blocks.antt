@@ -1,50 +1,31 @@
 -- What the code goes by on the blocks of a log, one by one. Assumes nothing.
-use mathlib.Core.Path.{◌≡◌, refl, sym, ◌∙◌}
-use mathlib.Core.Bool.{Bool, ◌&&◌}
-use mathlib.Core.List.{List}
-use Prim.Native.Nat.{ℕ, suc, ◌+◌, ◌-◌, ◌*◌, ◌/◌, ◌≤◌, ◌<◌}
-use native.Mathlib.Nat.{sub-zero}
-use native.Mathlib.Omega.{arith}
-use borrow.Author.Tests.{eqb-true}
-use lib.Dec.{eqb}
-use lib.ListN.{length, take, drop, get_or}
-use lib.Seq.{drop-drop}
-use mir.Syntax.{w8}
-use mir.Val.{Fits}
+use Rattle.std.proofs.Common.{◌≡◌, refl, sym, ◌∙◌, Bool, ◌&&◌, List, ℕ, suc, ◌+◌, ◌-◌, ◌*◌, ◌/◌, ◌≤◌, ◌<◌, arith, eqb-true, eqb, length, take, drop, get_or, drop-drop, w8, Fits, Ok, Err, Option, Some, None, ok_or, Result}
+use Rattle.std.proofs.Math.Nat.{sub-zero}
 use Rattle.lent.specs.Bytes.{all}
 use Rattle.lent.proofs.Laws.{and_left}
 use Rattle.bundle_block.specs.declared.Refusal.{Refusal}
 use Rattle.bundle_block.specs.declared.Refusal.TheVariants.{Broken}
-use Rattle.bundle_block.specs.declared.Verdict.{Verdict}
-use Rattle.bundle_block.specs.declared.Verdict.TheVariants.{Good, Bad}
-use Rattle.bundle_block.specs.Block.{number_in, kind_in, zero_in, payload_in, is_zero, ◌before◌, judge_check, judge_edition, judge_order, judge_block}
+use Rattle.bundle_block.specs.Block.{Verdict, number_in, kind_in, zero_in, payload_in, is_zero, ◌before◌, judge_check, judge_edition, judge_order, judge_block}
 use Rattle.bundle_block.proofs.Block.{both-good, demanded}
 use Rattle.replay_record.proofs.Fields.{two_bytes}
 use Rattle.replay_machine.specs.declared.Count.{Count}
 use Rattle.replay_machine.specs.declared.Tally.{Tally}
-use Rattle.replay_machine.specs.declared.Step.{Step}
-use Rattle.replay_machine.specs.declared.Step.TheVariants as M
 use Rattle.replay_machine.specs.Machine.{State}
 use Rattle.replay_machine.specs.Records.{Came, goes, broken, take_records, Few, state_of, came_by}
 use Rattle.replay_machine.proofs.Takes.{few-records}
-use Rattle.replay_log.specs.declared.Run.{Run}
-use Rattle.replay_log.specs.declared.Run.TheVariants.{Goes, Stops}
 use Rattle.replay_log.specs.Log.{Course, reads, stops, in_block, take_block, ◌next◌, take_blocks}
 use Rattle.replay_log.specs.Stream.{course_by, Within, WithinBy, TookBlock, TookBlocks}
 
 -- ---- a payload
 
-module _ (index : ℕ) {c : Came} (step : Step) (staged current : List ℕ) (p : came_by step staged current ≡ c) where
-  pub payload-broken : step ≡ M.Broken → stops (Broken index) ≡ in_block index c
-  payload-broken q = rw (← p, q)
-
-  pub payload-next : {t : Tally} → step ≡ M.Next t → reads t.ended (state_of t.count staged current) ≡ in_block index c
-  payload-next q = rw (← p, q)
+pub payload-came : (index : ℕ) {c : Came} (came : Option Tally) (staged current : List ℕ) {r : Result Tally Refusal} → came_by came staged current ≡ c → r ≡ ok_or came (Broken index) → course_by r staged current ≡ in_block index c
+payload-came index (Some t) staged current p q = rw (q, ← p)
+payload-came index None staged current p q = rw (q, ← p)
 
 -- ---- one block
 
 -- a block past 65,535 can't have its number
-pub index-small : (edition index kind used : ℕ) (b : List ℕ) {v : Verdict} → length b ≡ 512 → ((k : ℕ) → Fits w8 (get_or b k 0)) → v ≡ judge_block edition index kind used b → v ≡ Good → index < 65536
+pub index-small : (edition index kind used : ℕ) (b : List ℕ) {v : Verdict} → length b ≡ 512 → ((k : ℕ) → Fits w8 (get_or b k 0)) → v ≡ judge_block edition index kind used b → v ≡ Ok tt → index < 65536
 unfolding judge_block judge_order
 index-small edition index kind used b h f p q =
     let g = (both-good (judge_check index b) (judge_edition edition index b before judge_order index kind used b) (sym p ∙ q)).1 in
@@ -64,14 +45,14 @@ few-small index w h =
     record { shows = omega arith; differ = omega arith; first = omega arith }
 
 module _ (edition index : ℕ) (t : Tally) (staged current b : List ℕ) {v : Verdict} (j : v ≡ judge_block edition index 4 496 b) where
-  pub took-bad : {r : Refusal} → v ≡ Bad r → TookBlock edition index t staged current b staged current (Stops r)
+  pub took-bad : {r : Refusal} → v ≡ Err r → TookBlock edition index t staged current b staged current (Err r)
   unfolding take_block
   took-bad q = record { course = rw (← j, q); within = tt }
 
-  module _ (g : v ≡ Good) (h : length b ≡ 512) (f : (k : ℕ) → Fits w8 (get_or b k 0)) (w : Within index t.count) where
-    within_block : (r : Run) (staged' current' : List ℕ) → course_by r staged' current' ≡ in_block index (take_records 31 t.ended (state_of t.count staged current) (payload_in b)) → WithinBy (index + 1) r
-    within_block (Stops r) staged' current' p = tt
-    within_block (Goes n) staged' current' p = on (take_records 31 t.ended (state_of t.count staged current) (payload_in b)) refl p
+  module _ (g : v ≡ Ok tt) (h : length b ≡ 512) (f : (k : ℕ) → Fits w8 (get_or b k 0)) (w : Within index t.count) where
+    within_block : (r : Result Tally Refusal) (staged' current' : List ℕ) → course_by r staged' current' ≡ in_block index (take_records 31 t.ended (state_of t.count staged current) (payload_in b)) → WithinBy (index + 1) r
+    within_block (Err r) staged' current' p = tt
+    within_block (Ok n) staged' current' p = on (take_records 31 t.ended (state_of t.count staged current) (payload_in b)) refl p
       where
         on : (c : Came) → c ≡ take_records 31 t.ended (state_of t.count staged current) (payload_in b) → reads n.ended (state_of n.count staged' current') ≡ in_block index c → Within (index + 1) n.count
         on (goes e s) q k =
@@ -81,52 +62,52 @@ module _ (edition index : ℕ) (t : Tally) (staged current b : List ℕ) {v : Ve
             record { blocks = omega arith; few = rw m (few-records (31 * index) 31 t.ended n.ended (state_of t.count staged current) (state_of n.count staged' current') (payload_in b) w.few (x ∙ q)) }
         on broken q k = let z : ◌≡◌ {A = ℕ} 0 1 = cc in absurd (omega arith)
 
-    pub took-good : {r : Run} (staged' current' : List ℕ) → course_by r staged' current' ≡ in_block index (take_records 31 t.ended (state_of t.count staged current) (take (508 - 8) (drop 8 b))) → TookBlock edition index t staged current b staged' current' r
+    pub took-good : {r : Result Tally Refusal} (staged' current' : List ℕ) → course_by r staged' current' ≡ in_block index (take_records 31 t.ended (state_of t.count staged current) (take (508 - 8) (drop 8 b))) → TookBlock edition index t staged current b staged' current' r
     unfolding take_block
     took-good {r} staged' current' p = record { course = rw (← j, g) p; within = within_block r staged' current' p }
 
 -- ---- a run of them
 
-module _ (edition index number i at : ℕ) (l : List ℕ) (t : Tally) (staged current : List ℕ) {total : Course} (run : Run) (staged' current' : List ℕ) (h : i < number)
-    (k : TookBlock edition (index + i) t staged current (take (at + 512 - at) (drop at l)) staged' current' run)
-    (p : take_blocks edition (index + i) (number - i) t.ended (state_of t.count staged current) (drop at l) ≡ total) where
-  turn : (course_by run staged' current' next λ e s. take_blocks edition (index + (i + 1)) (number - (i + 1)) e s (drop (at + 512) l)) ≡ total
+module _ (edition index number i : ℕ) (l : List ℕ) (t : Tally) (staged current : List ℕ) {total : Course} (run : Result Tally Refusal) (staged' current' : List ℕ) (h : i < number)
+    (k : TookBlock edition (index + i) t staged current (take (512 * i + 512 - 512 * i) (drop (512 * i) l)) staged' current' run)
+    (p : take_blocks edition (index + i) (number - i) t.ended (state_of t.count staged current) (drop (512 * i) l) ≡ total) where
+  turn : (course_by run staged' current' next λ e s. take_blocks edition (index + (i + 1)) (number - (i + 1)) e s (drop (512 * (i + 1)) l)) ≡ total
   unfolding take_blocks
   turn =
       let n : number - i ≡ suc (number - (i + 1)) = omega arith in
-      let m : at + 512 - at ≡ 512 = omega arith in
+      let m : 512 * i + 512 - 512 * i ≡ 512 = omega arith in
       let x : index + i + 1 ≡ index + (i + 1) = omega arith in
-      let q = rw (n, drop-drop 512 at l, x) at p in
-      rw (k.course, m) q
+      let y : 512 * (i + 1) ≡ 512 * i + 512 = omega arith in
+      let q = rw (n, drop-drop 512 (512 * i) l, x) at p in
+      rw (k.course, m, y) q
 
-  pub blocks-stop : {r : Refusal} → run ≡ Stops r → course_by run staged' current' ≡ total
-  blocks-stop q = rw q (rw q at turn)
+  pub blocks-stop : {r : Refusal} → run ≡ Err r → stops r ≡ total
+  blocks-stop q = rw q at turn
 
-  pub blocks-next : {n : Tally} → run ≡ Goes n → take_blocks edition (index + (i + 1)) (number - (i + 1)) n.ended (state_of n.count staged' current') (drop (at + 512) l) ≡ total
+  pub blocks-next : {n : Tally} → run ≡ Ok n → take_blocks edition (index + (i + 1)) (number - (i + 1)) n.ended (state_of n.count staged' current') (drop (512 * (i + 1)) l) ≡ total
   blocks-next q = rw q at turn
 
-  pub within-next : {n : Tally} → run ≡ Goes n → Within (index + (i + 1)) n.count
+  pub within-next : {n : Tally} → run ≡ Ok n → Within (index + (i + 1)) n.count
   within-next {n} q =
       let x : index + (i + 1) ≡ index + i + 1 = omega arith in
-      let w : WithinBy (index + i + 1) (Goes n) = (rw q at k.within) in
+      let w : WithinBy (index + i + 1) (Ok n) = (rw q at k.within) in
       rw x w
 
-pub blocks-all : (edition index number : ℕ) (ended : Bool) (s : State) (l : List ℕ) → take_blocks edition (index + 0) (number - 0) ended s (drop 0 l) ≡ take_blocks edition index number ended s l
+pub blocks-all : (edition index number : ℕ) (ended : Bool) (s : State) (l : List ℕ) → take_blocks edition (index + 0) (number - 0) ended s (drop (512 * 0) l) ≡ take_blocks edition index number ended s l
 blocks-all edition index number ended s l = let z : index + 0 ≡ index = omega arith in rw (sub-zero, z)
 
 pub within_all : (index : ℕ) {c : Count} → Within index c → Within (index + 0) c
 within_all index w = let z : index + 0 ≡ index = omega arith in rw z w
 
 module _ (edition index : ℕ) (t₀ : Tally) (staged₀ current₀ l staged current : List ℕ) where
-  pub took-stop : (run : Run) {r : Refusal} → run ≡ Stops r → course_by run staged current ≡ take_blocks edition index (length l / 512) t₀.ended (state_of t₀.count staged₀ current₀) l
-      → TookBlocks edition index t₀ staged₀ current₀ l staged current run
-  took-stop run q p = record { course = p; within = rw q tt }
+  pub took-stop : {r : Refusal} → stops r ≡ take_blocks edition index (length l / 512) t₀.ended (state_of t₀.count staged₀ current₀) l → TookBlocks edition index t₀ staged₀ current₀ l staged current (Err r)
+  took-stop p = record { course = p; within = tt }
 
-  pub took-all : (i at : ℕ) (t : Tally) → length l / 512 ≤ i → i ≤ length l / 512
-      → take_blocks edition (index + i) (length l / 512 - i) t.ended (state_of t.count staged current) (drop at l) ≡ take_blocks edition index (length l / 512) t₀.ended (state_of t₀.count staged₀ current₀) l
-      → Within (index + i) t.count → TookBlocks edition index t₀ staged₀ current₀ l staged current (Goes t)
+  pub took-all : (i : ℕ) (t : Tally) → length l / 512 ≤ i → i ≤ length l / 512
+      → take_blocks edition (index + i) (length l / 512 - i) t.ended (state_of t.count staged current) (drop (512 * i) l) ≡ take_blocks edition index (length l / 512) t₀.ended (state_of t₀.count staged₀ current₀) l
+      → Within (index + i) t.count → TookBlocks edition index t₀ staged₀ current₀ l staged current (Ok t)
   unfolding take_blocks
-  took-all i at t h k p w =
+  took-all i t h k p w =
       let n : length l / 512 - i ≡ 0 = omega arith in
       let m : i ≡ length l / 512 = omega arith in
       record { course = rw n at p; within = rw (← m) w }

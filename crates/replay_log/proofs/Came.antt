@@ -1,19 +1,11 @@
 -- A log in two parts, the first of whole blocks: what is known behind both. Assumes nothing.
-use mathlib.Core.Path.{◌≡◌, refl, sym, ◌∙◌}
-use mathlib.Core.Bool.{Bool, false}
-use mathlib.Core.List.{List, [], ◌∷◌, ◌++◌, append-nil}
-use Prim.Native.Nat.{ℕ, zero, suc, ◌+◌, ◌*◌, ◌/◌, ◌%◌, ◌≤◌, ◌<◌}
-use native.Mathlib.Nat.{zero-add, suc-add}
-use native.Mathlib.Omega.{arith}
-use lib.ListN.{length, take, drop, length-append, length-drop}
-use lib.Seq.{take-append-le, drop-append-le}
+use Rattle.std.proofs.Common.{◌≡◌, refl, sym, ◌∙◌, Bool, false, List, [], ◌∷◌, ◌++◌, append-nil, ℕ, zero, suc, ◌+◌, ◌*◌, ◌/◌, ◌%◌, ◌≤◌, ◌<◌, zero-add, suc-add, arith, length, take, drop, length-append, length-drop, Result, Ok, Err}
+use Rattle.std.proofs.Math.Seq.{take-append-le, drop-append-le}
 use Rattle.bundle_block.specs.declared.Refusal.{Refusal}
 use Rattle.bundle_block.specs.Block.{edition_in}
 use Rattle.replay_machine.specs.declared.Tally.{Tally}
 use Rattle.replay_machine.specs.Machine.{State, start}
 use Rattle.replay_machine.specs.Records.{state_of}
-use Rattle.replay_log.specs.declared.Run.{Run}
-use Rattle.replay_log.specs.declared.Run.TheVariants.{Goes, Stops}
 use Rattle.replay_log.specs.declared.Place.{Place}
 use Rattle.replay_log.specs.declared.Reader.{Reader}
 use Rattle.replay_log.specs.declared.Reader.TheVariants.{Empty, Going, Stopped}
@@ -46,7 +38,7 @@ whole l h = omega arith
 
 -- ---- from a place on
 
-module _ (g : Place) (staged current l staged' current' : List ℕ) (w : length l % 512 ≡ 0) {run : Run} (k : TookBlocks g.edition g.block g.tally staged current l staged' current' run) where
+module _ (g : Place) (staged current l staged' current' : List ℕ) (w : length l % 512 ≡ 0) {run : Result Tally Refusal} (k : TookBlocks g.edition g.block g.tally staged current l staged' current' run) where
   both-parts : (p : List ℕ) → length p ≡ 512 * g.block → take_blocks g.edition 0 g.block false start p ≡ reads g.tally.ended (state_of g.tally.count staged current)
       → take_blocks g.edition 0 (g.block + length l / 512) false start (p ++ l) ≡ course_by run staged' current'
   both-parts p h c = blocks-split g.edition 0 g.block (length l / 512) false start p l h ∙ rw (c, zero-add) (sym k.course)
@@ -54,16 +46,16 @@ module _ (g : Place) (staged current l staged' current' : List ℕ) (w : length 
   both_long : (p : List ℕ) → length p ≡ 512 * g.block → length (p ++ l) ≡ 512 * (g.block + length l / 512)
   both_long p h = let e = whole l w in rw length-append (omega arith)
 
-  pub gone-stopped : {r : Refusal} → run ≡ Stops r → Gone g staged current l staged' current' (Stopped r)
+  pub gone-stopped : {r : Refusal} → run ≡ Err r → Gone g staged current l staged' current' (Stopped r)
   gone-stopped {r} q =
       record {
         behind = λ p h n e c. record { blocks = g.block + length l / 512; long = both_long p h; some = n; course = rw (← e) (both-parts p h c ∙ rw q) };
         steady = tt;
       }
 
-  pub gone-going : {t : Tally} → run ≡ Goes t → Gone g staged current l staged' current' (Going (record { edition = g.edition; block = g.block + length l / 512; tally = t }))
+  pub gone-going : {t : Tally} → run ≡ Ok t → Gone g staged current l staged' current' (Going (record { edition = g.edition; block = g.block + length l / 512; tally = t }))
   gone-going {t} q =
-      let x : WithinBy (g.block + length l / 512) (Goes t) = (rw q at k.within) in
+      let x : WithinBy (g.block + length l / 512) (Ok t) = (rw q at k.within) in
       record {
         behind = λ p h n e c. record { long = both_long p h; some = n; edition = e; course = rw (← e) (both-parts p h c ∙ rw q) };
         steady = x;

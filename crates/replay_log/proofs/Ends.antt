@@ -1,37 +1,26 @@
 -- The end of a log: what is known then is its replay. Assumes nothing.
-use mathlib.Core.Path.{◌≡◌, sym, ◌∙◌}
-use mathlib.Core.Bool.{false}
-use mathlib.Core.List.{List, [], ◌++◌}
-use Prim.Native.Nat.{ℕ, ◌*◌, ◌/◌, ◌%◌, ◌<◌}
-use native.Mathlib.Omega.{arith}
-use borrow.Author.Tests.{lt-ltb, eq-eqb, ne_eqb}
-use lib.ListN.{length, length-append}
+use Rattle.std.proofs.Common.{◌≡◌, sym, ◌∙◌, false, List, [], ◌++◌, ℕ, ◌*◌, ◌/◌, ◌%◌, ◌<◌, arith, lt-ltb, eq-eqb, ne_eqb, length, length-append, Ok, Err}
 use Rattle.lent.specs.Fill.{zeros}
-use Rattle.bundle_block.specs.declared.Refusal.{Refusal}
 use Rattle.bundle_block.specs.declared.Refusal.TheVariants.{Broken}
-use Rattle.bundle_block.specs.declared.Verdict.TheVariants.{Good, Bad}
 use Rattle.bundle_block.specs.Block.{edition_in}
 use Rattle.bundle_read.specs.Bundle.{judge_length}
 use Rattle.replay_machine.specs.Machine.{start}
-use Rattle.replay_log.specs.declared.Answer.{Answer}
-use Rattle.replay_log.specs.declared.Answer.TheVariants.{Replayed, Refused}
-use Rattle.replay_log.specs.declared.Place.{Place}
 use Rattle.replay_log.specs.declared.Reader.{Reader}
 use Rattle.replay_log.specs.declared.Reader.TheVariants.{Empty, Going, Stopped}
 use Rattle.replay_log.specs.Log.{Course, take_blocks, Meaning, says, refused, meant_by, replay_of}
-use Rattle.replay_log.specs.Call.{answer_of, Numbered, HasReplayed}
+use Rattle.replay_log.specs.Call.{Answer, answer_of, Numbered, HasReplayed}
 use Rattle.replay_log.specs.Stream.{first_place, Behind, Took, answer_by, Finished}
 
 -- ---- the length
 
-length-good : (l : List ℕ) (m : ℕ) → length l ≡ 512 * m → 0 < m → judge_length l ≡ Good
+length-good : (l : List ℕ) (m : ℕ) → length l ≡ 512 * m → 0 < m → judge_length l ≡ Ok tt
 unfolding judge_length
 length-good l m h k =
     let a = lt-ltb 0 (length l) (omega arith) in
     let b = eq-eqb (length l % 512) 0 (omega arith) in
     rw (a, b)
 
-length-odd : (l : List ℕ) → 0 < length l % 512 → judge_length l ≡ Bad (Broken 0)
+length-odd : (l : List ℕ) → 0 < length l % 512 → judge_length l ≡ Err (Broken 0)
 unfolding judge_length
 length-odd l h =
     let a = lt-ltb 0 (length l) (omega arith) in
@@ -49,16 +38,6 @@ replayed l m h k p =
 pub placed : (l : List ℕ) {e : ℕ} → e ≡ edition_in l → record { edition = e; block = 0; tally = record { count = record { shows = 0; differ = 0; first = 0 }; ended = false } } ≡ first_place l
 placed l p = rw p
 
-module _ (r : Reader) where
-  pub answered-empty : r ≡ Empty → Refused (Broken 0) ≡ answer_by r
-  answered-empty p = rw p
-
-  pub answered-going : (g : Place) → r ≡ Going g → Replayed g.tally.count.shows g.tally.count.differ g.tally.count.first ≡ answer_by r
-  answered-going g p = rw p
-
-  pub answered-stopped : (c : Refusal) → r ≡ Stopped c → Refused c ≡ answer_by r
-  answered-stopped c p = rw p
-
 known : (l staged current : List ℕ) (r : Reader) → Behind l staged current r → answer_by r ≡ answer_of (replay_of l)
 unfolding replay_of judge_length
 known l staged current Empty b = rw b.none
@@ -66,7 +45,7 @@ known l staged current (Going g) b = rw (replayed l g.block b.long b.some b.cour
 known l staged current (Stopped r) b = rw (replayed l b.blocks b.long b.some b.course)
 
 module _ (reader : Reader) (staged current l : List ℕ) where
-  odd : (p : List ℕ) → length p % 512 ≡ 0 → 0 < length l % 512 → Refused (Broken 0) ≡ answer_of (replay_of (p ++ l))
+  odd : (p : List ℕ) → length p % 512 ≡ 0 → 0 < length l % 512 → Err (Broken 0) ≡ answer_of (replay_of (p ++ l))
   unfolding replay_of
   odd p h k =
       let n = length-append p l in
@@ -77,7 +56,7 @@ module _ (reader : Reader) (staged current l : List ℕ) where
   whole-behind (Going g) p b = let n = b.long in omega arith
   whole-behind (Stopped r) p b = let n = b.long in omega arith
 
-  pub finished-odd : 0 < length l % 512 → Finished reader staged current l (Refused (Broken 0))
+  pub finished-odd : 0 < length l % 512 → Finished reader staged current l (Err (Broken 0))
   finished-odd k = record { replayed = λ p b. odd p (whole-behind reader p b) k }
 
   pub finished-whole : {r : Reader} {a : Answer} (staged' current' : List ℕ) → Took reader staged current l staged' current' r → a ≡ answer_by r → Finished reader staged current l a

@@ -1,10 +1,8 @@
 -- A sync log (RULES R21): blocks of records, judged in order and replayed record by record. Assumes nothing.
-use Rattle.std.specs.Prelude.{Bool, false, List, ℕ, zero, suc, ◌+◌, ◌*◌, ◌/◌, length, take, drop}
+use Rattle.std.specs.Prelude.{Bool, false, List, ℕ, zero, suc, ◌+◌, ◌*◌, ◌/◌, length, take, drop, Ok, Err}
 use Rattle.bundle_block.specs.declared.Refusal.{Refusal}
 use Rattle.bundle_block.specs.declared.Refusal.TheVariants.{Broken}
-use Rattle.bundle_block.specs.declared.Verdict.{Verdict}
-use Rattle.bundle_block.specs.declared.Verdict.TheVariants.{Good, Bad}
-use Rattle.bundle_block.specs.Block.{edition_in, payload_in, judge_block}
+use Rattle.bundle_block.specs.Block.{Verdict, edition_in, payload_in, judge_block}
 use Rattle.bundle_read.specs.Bundle.{judge_length}
 use Rattle.replay_machine.specs.Machine.{State, start}
 use Rattle.replay_machine.specs.Records.{record_size, Came, goes, broken, take_records}
@@ -25,8 +23,8 @@ pub data Course : Type 0 where
   stops : Refusal → Course
 
 abbrev pub unless : Verdict → Course → Course
-unless Good c = c
-unless (Bad r) c = stops r
+unless (Ok o) c = c
+unless (Err r) c = stops r
 
 -- 10 for a record that breaks a rule
 abbrev pub in_block : (block : ℕ) → Came → Course
@@ -61,8 +59,8 @@ meant_by (reads ended s) = says s.count.shows s.count.differ s.count.first
 meant_by (stops r) = refused r
 
 abbrev pub after_length : Verdict → Meaning → Meaning
-after_length Good m = m
-after_length (Bad r) m = refused r
+after_length (Ok o) m = m
+after_length (Err r) m = refused r
 
 -- the length comes before all
 unfoldable pub replay_of : List ℕ → Meaning

@@ -1,5 +1,5 @@
 -- A log as it comes, whole blocks at a time: what is known behind some bytes of it. For the call nobody has to read this. Assumes nothing.
-use Rattle.std.specs.Prelude.{◌≡◌, true, false, List, [], ◌++◌, ℕ, ◌+◌, ◌*◌, ◌/◌, ◌≤◌, ◌<◌, T, length}
+use Rattle.std.specs.Prelude.{◌≡◌, true, false, List, [], ◌++◌, ℕ, ◌+◌, ◌*◌, ◌/◌, ◌≤◌, ◌<◌, T, length, Result, Ok, Err}
 use Rattle.lent.specs.Fill.{zeros}
 use Rattle.bundle_block.specs.declared.Refusal.{Refusal}
 use Rattle.bundle_block.specs.declared.Refusal.TheVariants.{Broken}
@@ -9,34 +9,30 @@ use Rattle.replay_machine.specs.declared.Count.{Count}
 use Rattle.replay_machine.specs.declared.Tally.{Tally}
 use Rattle.replay_machine.specs.Machine.{nothing, start}
 use Rattle.replay_machine.specs.Records.{state_of, Few}
-use Rattle.replay_log.specs.declared.Run.{Run}
-use Rattle.replay_log.specs.declared.Run.TheVariants.{Goes, Stops}
 use Rattle.replay_log.specs.declared.Place.{Place}
 use Rattle.replay_log.specs.declared.Reader.{Reader}
 use Rattle.replay_log.specs.declared.Reader.TheVariants.{Empty, Going, Stopped}
-use Rattle.replay_log.specs.declared.Answer.{Answer}
-use Rattle.replay_log.specs.declared.Answer.TheVariants.{Replayed, Refused}
 use Rattle.replay_log.specs.Log.{Course, reads, stops, take_block, take_blocks, replay_of}
-use Rattle.replay_log.specs.Call.{answer_of}
+use Rattle.replay_log.specs.Call.{Answer, answer_of}
 
-abbrev pub course_by : Run → (staged current : List ℕ) → Course
-course_by (Goes t) staged current = reads t.ended (state_of t.count staged current)
-course_by (Stops r) staged current = stops r
+abbrev pub course_by : Result Tally Refusal → (staged current : List ℕ) → Course
+course_by (Ok t) staged current = reads t.ended (state_of t.count staged current)
+course_by (Err r) staged current = stops r
 
 -- behind so many blocks: no log has more than 65,536 of them, and no block more than 31 records
 pub record Within (n : ℕ) (c : Count) : Type 0 where
   pub blocks : n ≤ 65536
   pub few : Few (31 * n) c
 
-abbrev pub WithinBy : (n : ℕ) → Run → Type 0
-WithinBy n (Goes t) = Within n t.count
-WithinBy n (Stops r) = T true
+abbrev pub WithinBy : (n : ℕ) → Result Tally Refusal → Type 0
+WithinBy n (Ok t) = Within n t.count
+WithinBy n (Err r) = T true
 
-pub record TookBlock (edition index : ℕ) (t : Tally) (staged current b staged' current' : List ℕ) (r : Run) : Type 0 where
+pub record TookBlock (edition index : ℕ) (t : Tally) (staged current b staged' current' : List ℕ) (r : Result Tally Refusal) : Type 0 where
   pub course : course_by r staged' current' ≡ take_block edition index t.ended (state_of t.count staged current) b
   pub within : WithinBy (index + 1) r
 
-pub record TookBlocks (edition index : ℕ) (t : Tally) (staged current l staged' current' : List ℕ) (r : Run) : Type 0 where
+pub record TookBlocks (edition index : ℕ) (t : Tally) (staged current l staged' current' : List ℕ) (r : Result Tally Refusal) : Type 0 where
   pub course : course_by r staged' current' ≡ take_blocks edition index (length l / 512) t.ended (state_of t.count staged current) l
   pub within : WithinBy (index + length l / 512) r
 
@@ -85,9 +81,9 @@ pub record Took (r : Reader) (staged current l staged' current' : List ℕ) (r' 
 
 -- what is known at the end, where a log without a block is refused
 abbrev pub answer_by : Reader → Answer
-answer_by Empty = Refused (Broken 0)
-answer_by (Going g) = Replayed g.tally.count.shows g.tally.count.differ g.tally.count.first
-answer_by (Stopped r) = Refused r
+answer_by Empty = Err (Broken 0)
+answer_by (Going g) = Ok g.tally.count
+answer_by (Stopped r) = Err r
 
 -- the bytes l are the rest of the log
 pub record Finished (r : Reader) (staged current l : List ℕ) (a : Answer) : Type 0 where

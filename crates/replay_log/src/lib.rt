@@ -8,33 +8,15 @@ ghost use Rattle.replay_log.specs.Log.{in_block};
 ghost use Rattle.replay_log.specs.Call.{number_of, value_of, differ_of, first_of, HasReplayed};
 ghost use Rattle.replay_log.specs.Stream.{course_by, Within, TookBlock, TookBlocks, first_place, Behind, Gone, Steady, Took, answer_by, Finished};
 
-use bundle_block::{Refusal, Verdict};
+use bundle_block::Refusal;
 use bundle_run::BLOCK;
-use replay_machine::{Count, Step, Tally};
+use replay_machine::{Count, Tally};
 
 const KIND: u8 = 4;
 
 const RECORDS: usize = 31;
 
 const USED: usize = RECORDS * replay_record::SIZE;
-
-// How many shows there were, how many differ, and the index of the first record that does; or why the log is refused.
-#[derive(Clone, Copy)]
-pub enum Answer {
-    Replayed {
-        shows: usize,
-        differ: usize,
-        first: usize,
-    },
-    Refused(Refusal),
-}
-
-// What some blocks come to.
-#[derive(Clone, Copy)]
-pub enum Run {
-    Goes(Tally),
-    Stops(Refusal),
-}
 
 // The edition of block 0, the number of the next block, and the tally so far.
 #[derive(Clone, Copy)]
@@ -44,7 +26,7 @@ pub struct Place {
     pub tally: Tally,
 }
 
-// What is known of a log while it comes: nothing has come, blocks have come, or one was refused.
+// What is known of a log while it comes: nothing has come, blocks have come, or one was refused. Stays our own enum: it has three answers.
 #[derive(Clone, Copy)]
 pub enum Reader {
     Empty,
@@ -52,8 +34,9 @@ pub enum Reader {
     Stopped(Refusal),
 }
 
-// Which edition each console should have shown.
-pub fn replay(log: &[u8]) -> Answer
+// Which edition each console should have shown: how many shows there were, how many differ, and the index of the first record that does;
+// or why the log is refused.
+pub fn replay(log: &[u8]) -> Result<Count, Refusal>
     ensures { HasReplayed log.now result }
 {
     let mut staged = [0u32; 256];
@@ -86,89 +69,70 @@ pub fn take(reader: Reader, blocks: &[u8], staged: &mut [u32], current: &mut [u3
 }
 
 // The rest of the log, and the answer.
-pub fn finish(reader: Reader, rest: &[u8], staged: &mut [u32], current: &mut [u32]) -> Answer
+pub fn finish(
+    reader: Reader,
+    rest: &[u8],
+    staged: &mut [u32],
+    current: &mut [u32],
+) -> Result<Count, Refusal>
     requires { (length staged.old ≡ 256) × (length current.old ≡ 256) × Steady reader }
     ensures { Finished reader staged.old current.old rest.now result }
 {
     let odd = rest.len() % BLOCK;
     if 0 < odd {
-        return Answer::Refused(Refusal::Broken(0));
+        return Err(Refusal::Broken(0));
     }
     answered(take(reader, rest, staged, current))
 }
 
 // An answer's number (RULES R7.1).
-pub fn number(a: Answer) -> u32
+pub fn number(a: Result<Count, Refusal>) -> u32
     ensures { result ≡ number_of a }
 {
     match a {
-        Answer::Replayed {
-            shows: _,
-            differ: _,
-            first: _,
-        } => 0,
-        Answer::Refused(r) => bundle_read::number(bundle_read::Answer::Refused(r)),
+        Ok(_) => 0,
+        Err(r) => bundle_read::refusal_number(r),
     }
 }
 
 // How many shows there were, or the refusal's place.
-pub fn value(a: Answer) -> usize
+pub fn value(a: Result<Count, Refusal>) -> usize
     ensures { result ≡ value_of a }
 {
     match a {
-        Answer::Replayed {
-            shows,
-            differ: _,
-            first: _,
-        } => shows,
-        Answer::Refused(r) => bundle_read::value(bundle_read::Answer::Refused(r)),
+        Ok(count) => count.shows,
+        Err(r) => bundle_read::refusal_place(r),
     }
 }
 
 // How many shows differ.
-pub fn differ(a: Answer) -> usize
+pub fn differ(a: Result<Count, Refusal>) -> usize
     ensures { result ≡ differ_of a }
 {
     match a {
-        Answer::Replayed {
-            shows: _,
-            differ,
-            first: _,
-        } => differ,
-        Answer::Refused(_) => 0,
+        Ok(count) => count.differ,
+        Err(_) => 0,
     }
 }
 
 // The index of the first record that differs.
-pub fn first(a: Answer) -> usize
+pub fn first(a: Result<Count, Refusal>) -> usize
     ensures { result ≡ first_of a }
 {
     match a {
-        Answer::Replayed {
-            shows: _,
-            differ: _,
-            first,
-        } => first,
-        Answer::Refused(_) => 0,
+        Ok(count) => count.first,
+        Err(_) => 0,
     }
 }
 
 // What is known at a log's end.
-fn answered(reader: Reader) -> Answer
+fn answered(reader: Reader) -> Result<Count, Refusal>
     ensures { result ≡ answer_by reader }
 {
     match reader {
-        Reader::Empty => Answer::Refused(Refusal::Broken(0)),
-        Reader::Going(place) => {
-            let tally = place.tally;
-            let count = tally.count;
-            Answer::Replayed {
-                shows: count.shows,
-                differ: count.differ,
-                first: count.first,
-            }
-        }
-        Reader::Stopped(r) => Answer::Refused(r),
+        Reader::Empty => Err(Refusal::Broken(0)),
+        Reader::Going(place) => Ok(place.tally.count),
+        Reader::Stopped(r) => Err(r),
     }
 }
 
@@ -196,15 +160,20 @@ fn go(place: Place, blocks: &[u8], staged: &mut [u32], current: &mut [u32]) -> R
     requires { (length blocks.now % 512 ≡ 0) × (length staged.old ≡ 256) × (length current.old ≡ 256) × Within place.block place.tally.count }
     ensures { Gone place staged.old current.old blocks.now staged.new current.new result }
 {
-    let edition = place.edition;
-    let block = place.block;
-    let run = take_blocks(blocks, edition, block, place.tally, staged, current);
+    let run = take_blocks(
+        blocks,
+        place.edition,
+        place.block,
+        place.tally,
+        staged,
+        current,
+    );
     match run {
-        Run::Stops(r) => Reader::Stopped(r),
-        Run::Goes(tally) => Reader::Going(Place {
-            edition,
-            block: block + blocks.len() / BLOCK,
+        Err(r) => Reader::Stopped(r),
+        Ok(tally) => Reader::Going(Place {
+            block: place.block + blocks.len() / BLOCK,
             tally,
+            ..place
         }),
     }
 }
@@ -216,31 +185,24 @@ fn take_blocks(
     tally: Tally,
     staged: &mut [u32],
     current: &mut [u32],
-) -> Run
+) -> Result<Tally, Refusal>
     requires { (length staged.old ≡ 256) × (length current.old ≡ 256) × Within index tally.count }
     ensures { TookBlocks edition index tally staged.old current.old blocks.now staged.new current.new result }
 {
     let number = blocks.len() / BLOCK;
     let mut came = tally;
-    let mut at: usize = 0;
-    let mut i: usize = 0;
-    while i < number {
-        let run = take_block(
+    for i in 0..number {
+        let at = BLOCK * i;
+        came = take_block(
             &blocks[at..at + BLOCK],
             edition,
             index + i,
             came,
             staged,
             current,
-        );
-        let Run::Goes(next) = run else {
-            return run;
-        };
-        came = next;
-        i += 1;
-        at += BLOCK;
+        )?;
     }
-    Run::Goes(came)
+    Ok(came)
 }
 
 // One block: 11, 12, 10, then its records.
@@ -251,15 +213,12 @@ fn take_block(
     tally: Tally,
     staged: &mut [u32],
     current: &mut [u32],
-) -> Run
+) -> Result<Tally, Refusal>
     requires { (length block.now ≡ 512) × (length staged.old ≡ 256) × (length current.old ≡ 256) × Within index tally.count }
     ensures { TookBlock edition index tally staged.old current.old block.now staged.new current.new result }
 {
-    let verdict = bundle_block::judge_block(block, edition, index, KIND, USED);
-    match verdict {
-        Verdict::Bad(r) => Run::Stops(r),
-        Verdict::Good => take_payload(&block[8..508], index, tally, staged, current),
-    }
+    bundle_block::judge_block(block, edition, index, KIND, USED)?;
+    take_payload(&block[8..508], index, tally, staged, current)
 }
 
 fn take_payload(
@@ -268,12 +227,10 @@ fn take_payload(
     tally: Tally,
     staged: &mut [u32],
     current: &mut [u32],
-) -> Run
+) -> Result<Tally, Refusal>
     requires { (length payload.now ≡ 500) × (length staged.old ≡ 256) × (length current.old ≡ 256) × Few 2031585 tally.count }
     ensures { course_by result staged.new current.new ≡ in_block index (take_records 31 tally.ended (state_of tally.count staged.old current.old) payload.now) }
 {
-    match replay_machine::take_records(payload, RECORDS, tally, staged, current) {
-        Step::Broken => Run::Stops(Refusal::Broken(index)),
-        Step::Next(next) => Run::Goes(next),
-    }
+    let came = replay_machine::take_records(payload, RECORDS, tally, staged, current);
+    came.ok_or(Refusal::Broken(index))
 }

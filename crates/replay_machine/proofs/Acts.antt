@@ -1,13 +1,5 @@
 -- What the code goes by where a record acts: counts, and the two tables. Assumes nothing.
-use Rattle.std.specs.Prelude.{if◌then◌else◌}
-use mathlib.Core.Path.{◌≡◌, ap}
-use mathlib.Core.Bool.{Bool, true, false}
-use mathlib.Core.List.{List}
-use Prim.Native.Nat.{ℕ, ◌+◌, ◌≤◌}
-use native.Mathlib.Omega.{arith}
-use borrow.Author.Tests.{eq-eqb, ne_eqb}
-use lib.Dec.{eqb}
-use lib.ListN.{set, get_or}
+use Rattle.std.proofs.Common.{if◌then◌else◌, ◌≡◌, ap, Bool, true, false, List, ℕ, ◌+◌, ◌≤◌, arith, eqb, set, get_or}
 use Rattle.replay_record.specs.declared.Action.{Action}
 use Rattle.replay_record.specs.declared.Action.TheVariants.{Stage, Swap, Show}
 use Rattle.replay_machine.specs.declared.Count.{Count}
@@ -17,29 +9,10 @@ use Rattle.replay_machine.specs.Records.{Few, state_of}
 -- ---- counts
 
 module _ (c : Count) where
-  pub counted-more : c.differ ≡ 0 → record { shows = c.shows; differ = c.differ; first = c.first + 1 } ≡ counted c
-  counted-more p = rw (eq-eqb c.differ 0 p)
-
-  pub counted-not : (c.differ ≡ 0 → ⊥) → c ≡ counted c
-  counted-not p = rw (ne_eqb c.differ 0 p)
-
-  pub showed-right : (b : Bool) → b ≡ true → record { shows = c.shows + 1; differ = c.differ; first = c.first } ≡ showed b c
-  showed-right b p = rw p
-
-  pub showed-other : (b : Bool) → b ≡ false → record { shows = c.shows + 1; differ = c.differ + 1; first = c.first } ≡ showed b c
-  showed-other b p = rw p
-
   pub showed-first : (b : Bool) {n : ℕ} {d : Count} → d ≡ showed b c → Few n c → d.first ≤ n
   showed-first b p f = rw p f.first
 
 -- ---- the tables
-
-module _ (note : ℕ) (staged current : List ℕ) where
-  pub swap-none : get_or staged note 0 ≡ 0 → (c : Count) → state_of c staged current ≡ swap note (state_of c staged current)
-  swap-none p c = rw (eq-eqb (get_or staged note 0) 0 p)
-
-  pub swap-some : (get_or staged note 0 ≡ 0 → ⊥) → (c : Count) → state_of c (set staged note 0) (set current note (get_or staged note 0)) ≡ swap note (state_of c staged current)
-  swap-some p c = rw (ne_eqb (get_or staged note 0) 0 p)
 
 module _ {a : Action} (note : ℕ) {i : ℕ} (c : Count) {r : Count} (staged current : List ℕ) where
   pub stage-acted : (edition : ℕ) → a ≡ Stage note edition → i ≡ note → r ≡ counted c → state_of r (set staged i edition) current ≡ act a (state_of c staged current)

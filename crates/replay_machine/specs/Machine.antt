@@ -21,25 +21,25 @@ start = record { staged = zeros note_count; current = zeros note_count; count = 
 
 -- a record more before the first that differs: none is counted from that one on
 abbrev pub counted : Count → Count
-counted c = record { shows = c.shows; differ = c.differ; first = if eqb c.differ 0 then c.first + 1 else c.first }
+counted c = record c { first = if eqb c.differ 0 then c.first + 1 else c.first }
 
 -- a show more, of the edition that is current or of another
 abbrev pub showed : (right : Bool) → Count → Count
-showed right c = record { shows = c.shows + 1; differ = if right then c.differ else c.differ + 1; first = c.first }
+showed right c = record c { shows = c.shows + 1; differ = if right then c.differ else c.differ + 1 }
 
 -- a stage replaces what was staged
 abbrev pub stage : (note edition : ℕ) → State → State
-stage note edition s = record { staged = set s.staged note edition; current = s.current; count = s.count }
+stage note edition s = record s { staged = set s.staged note edition }
 
 -- a swap makes current what is staged, and clears the stage; where nothing is staged it changes nothing
 abbrev pub swap : (note : ℕ) → State → State
 swap note s =
     if eqb (get_or s.staged note 0) 0 then s
-    else record { staged = set s.staged note 0; current = set s.current note (get_or s.staged note 0); count = s.count }
+    else record s { staged = set s.staged note 0; current = set s.current note (get_or s.staged note 0) }
 
 -- a show changes no edition
 abbrev pub show : (note edition : ℕ) → State → State
-show note edition s = record { staged = s.staged; current = s.current; count = showed (eqb (get_or s.current note 0) edition) s.count }
+show note edition s = record s { count = showed (eqb (get_or s.current note 0) edition) s.count }
 
 abbrev pub does : Action → State → State
 does (Stage note edition) s = stage note edition s

@@ -1,11 +1,10 @@
 -- The machine over a log's records as they stand in its bytes (RULES R21.3, R21.5). Assumes nothing.
-use Rattle.std.specs.Prelude.{Bool, true, false, List, ℕ, zero, suc, ◌≤◌, take, drop}
+use Rattle.std.specs.Prelude.{Bool, true, false, List, ℕ, zero, suc, ◌≤◌, take, drop, Option, Some, None}
 use Rattle.replay_record.specs.declared.Record.{Record}
 use Rattle.replay_record.specs.declared.Record.TheVariants.{Does, End, Faulty}
 use Rattle.replay_record.specs.Record.{record_of}
 use Rattle.replay_machine.specs.declared.Count.{Count}
-use Rattle.replay_machine.specs.declared.Step.{Step}
-use Rattle.replay_machine.specs.declared.Step.TheVariants.{Next, Broken}
+use Rattle.replay_machine.specs.declared.Tally.{Tally}
 use Rattle.replay_machine.specs.Machine.{State, act}
 
 abbrev pub record_size : ℕ
@@ -39,9 +38,9 @@ take_records (suc n) ended s l = takes (record_of (take record_size l)) ended s 
 abbrev pub state_of : Count → (staged current : List ℕ) → State
 state_of c staged current = record { staged = staged; current = current; count = c }
 
-abbrev pub came_by : Step → (staged current : List ℕ) → Came
-came_by (Next t) staged current = goes t.ended (state_of t.count staged current)
-came_by Broken staged current = broken
+abbrev pub came_by : Option Tally → (staged current : List ℕ) → Came
+came_by (Some t) staged current = goes t.ended (state_of t.count staged current)
+came_by None staged current = broken
 
 -- no number is above n
 pub record Few (n : ℕ) (c : Count) : Type 0 where

@@ -24,54 +24,43 @@ pub struct Tally {
     pub ended: bool,
 }
 
-#[derive(Clone, Copy)]
-pub enum Step {
-    Next(Tally),
-    Broken,
-}
-
-// So many records. No log has 2,031,616 of them.
+// So many records; none where one breaks a rule. No log has 2,031,616 of them.
 pub fn take_records(
     records: &[u8],
     number: usize,
     tally: Tally,
     staged: &mut [u32],
     current: &mut [u32],
-) -> Step
+) -> Option<Tally>
     requires { (16 * number ≤ length records.now) × (number ≤ 31) × (length staged.old ≡ 256) × (length current.old ≡ 256) × Few 2031585 tally.count }
     ensures { came_by result staged.new current.new ≡ take_records number tally.ended (state_of tally.count staged.old current.old) records.now }
 {
     let mut came = tally;
-    let mut at: usize = 0;
-    let mut i: usize = 0;
-    while i < number {
+    for i in 0..number {
+        let at = SIZE * i;
         let record = replay_record::read(&records[at..at + SIZE]);
-        let step = take(record, came, staged, current);
-        let Step::Next(next) = step else {
-            return step;
-        };
-        came = next;
-        i += 1;
-        at += SIZE;
+        came = take(record, came, staged, current)?;
     }
-    Step::Next(came)
+    Some(came)
 }
 
 // One record.
-fn take(record: Record, tally: Tally, staged: &mut [u32], current: &mut [u32]) -> Step
+fn take(record: Record, tally: Tally, staged: &mut [u32], current: &mut [u32]) -> Option<Tally>
     requires { (length staged.old ≡ 256) × (length current.old ≡ 256) × Few 2031616 tally.count }
     ensures { came_by result staged.new current.new ≡ takes «record» tally.ended (state_of tally.count staged.old current.old) }
 {
-    let count = tally.count;
     match record {
-        Record::Faulty => Step::Broken,
-        Record::End => Step::Next(Tally { count, ended: true }),
+        Record::Faulty => None,
+        Record::End => Some(Tally {
+            ended: true,
+            ..tally
+        }),
         Record::Does(action) => {
             if tally.ended {
-                return Step::Broken;
+                return None;
             }
-            Step::Next(Tally {
-                count: act(action, count, staged, current),
+            Some(Tally {
+                count: act(action, tally.count, staged, current),
                 ended: false,
             })
         }
@@ -84,17 +73,16 @@ fn act(action: Action, count: Count, staged: &mut [u32], current: &mut [u32]) ->
 {
     match action {
         Action::Stage(note, edition) => {
-            let i = place(note);
-            staged[i] = edition;
+            staged[usize::from(note)] = edition;
             counted_on(count)
         }
         Action::Swap(note) => {
-            swap(place(note), staged, current);
+            swap(usize::from(note), staged, current);
             counted_on(count)
         }
         Action::Show(note, edition) => {
-            let i = place(note);
-            counted_on(show(current[i] == edition, count))
+            let right = current[usize::from(note)] == edition;
+            counted_on(show(right, count))
         }
     }
 }
@@ -119,16 +107,12 @@ fn show(right: bool, count: Count) -> Count
 {
     let shows = count.shows + 1;
     if right {
-        return Count {
-            shows,
-            differ: count.differ,
-            first: count.first,
-        };
+        return Count { shows, ..count };
     }
     Count {
         shows,
         differ: count.differ + 1,
-        first: count.first,
+        ..count
     }
 }
 
@@ -137,19 +121,11 @@ fn counted_on(count: Count) -> Count
     requires { count.first ≤ 2031616 }
     ensures { result ≡ counted count }
 {
-    let differ = count.differ;
-    match differ {
+    match count.differ {
         0 => Count {
-            shows: count.shows,
-            differ,
             first: count.first + 1,
+            ..count
         },
         _ => count,
     }
-}
-
-fn place(note: u8) -> usize
-    ensures { (result ≡ note) × (result < 256) }
-{
-    note as usize
 }

@@ -1,15 +1,6 @@
 -- What the code goes by on a record: a test taken, and the fields that it reads byte by byte. Assumes nothing.
-use mathlib.Core.Path.{◌≡◌, refl, sym, ◌∙◌}
-use mathlib.Core.Bool.{Bool, true, false, ◌&&◌, and_assoc}
-use mathlib.Core.List.{List, [], ◌∷◌}
-use Prim.Native.Nat.{ℕ, zero, suc, ◌+◌, ◌*◌, ◌<◌}
-use native.Mathlib.Omega.{arith}
-use borrow.Author.Tests.{ltb-true, lt-ltb, le-ltb, ne_eqb}
-use lib.Dec.{eqb, ltb}
-use lib.ListN.{length, take, drop, get_or, length-drop}
-use lib.Seq.{drop-drop, take_all}
-use mir.Syntax.{w8}
-use mir.Val.{Fits}
+use Rattle.std.proofs.Common.{◌≡◌, refl, sym, ◌∙◌, Bool, true, false, ◌&&◌, List, [], ◌∷◌, ℕ, zero, suc, ◌+◌, ◌*◌, ◌<◌, arith, ltb-true, lt-ltb, le-ltb, ne_eqb, eqb, ltb, length, take, drop, get_or, length-drop, drop-drop, take_all, w8, Fits}
+use Rattle.std.proofs.Math.Bool.{and_assoc}
 use Rattle.lent.specs.Bytes.{all}
 use Rattle.lent.proofs.Laws.{next, and_left, and_right}
 use Rattle.bundle_block.specs.Block.{number, field, is_zero}

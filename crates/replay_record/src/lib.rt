@@ -14,6 +14,7 @@ pub enum Action {
     Show(u8, u32),
 }
 
+// Stays our own enum: it has three answers.
 #[derive(Clone, Copy)]
 pub enum Record {
     Does(Action),

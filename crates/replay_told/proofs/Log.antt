@@ -1,15 +1,6 @@
 -- The call's answer is the plain machine's on the log's actions, one by one; and no log has a block 65,536. Assumes nothing.
-use mathlib.Core.Path.{◌≡◌, refl, ◌∙◌}
-use mathlib.Core.Bool.{Bool, true, false}
-use mathlib.Core.List.{List, [], ◌++◌, append-nil}
-use Prim.Native.Nat.{ℕ, zero, suc, ◌+◌, ◌/◌, ◌≤◌}
-use native.Mathlib.Omega.{arith}
-use lib.ListN.{length, take, drop, get_or}
-use mir.Syntax.{w8}
-use mir.Val.{Fits}
-use Rattle.bundle_block.specs.declared.Verdict.{Verdict}
-use Rattle.bundle_block.specs.declared.Verdict.TheVariants.{Good, Bad}
-use Rattle.bundle_block.specs.Block.{field, payload_in, judge_block}
+use Rattle.std.proofs.Common.{◌≡◌, refl, ◌∙◌, Bool, true, false, List, [], ◌++◌, append-nil, ℕ, zero, suc, ◌+◌, ◌/◌, ◌≤◌, arith, length, take, drop, get_or, w8, Fits, Ok, Err}
+use Rattle.bundle_block.specs.Block.{Verdict, field, payload_in, judge_block}
 use Rattle.bundle_read.specs.Bundle.{judge_length}
 use Rattle.replay_machine.specs.Machine.{State, start, run}
 use Rattle.replay_machine.specs.Records.{Came, goes, broken, take_records}
@@ -24,9 +15,9 @@ unfolding take_block
 block_goes edition k ended e s t b p = on (judge_block edition k 4 496 b) (take_records 31 ended s (payload_in b)) p
   where
     on : (v : Verdict) (c : Came) → reads e t ≡ unless v (in_block k c) → goes e t ≡ c
-    on Good (goes x y) q = cc
-    on Good broken q = let z : ◌≡◌ {A = ℕ} 0 1 = cc in absurd (omega arith)
-    on (Bad r) c q = let z : ◌≡◌ {A = ℕ} 0 1 = cc in absurd (omega arith)
+    on (Ok o) (goes x y) q = cc
+    on (Ok o) broken q = let z : ◌≡◌ {A = ℕ} 0 1 = cc in absurd (omega arith)
+    on (Err r) c q = let z : ◌≡◌ {A = ℕ} 0 1 = cc in absurd (omega arith)
 
 -- behind the zeros no record acts
 ended-blocks : (edition k n : ℕ) (s s' : State) (e : Bool) (l : List ℕ) → reads e s' ≡ take_blocks edition k n true s l → (s' ≡ s) × (actions_of n l ≡ [])
@@ -65,9 +56,9 @@ unfolding replay_of
 plain log shows differ first p = on (judge_length log) (course_of log) refl p
   where
     on : (v : Verdict) (c : Course) → c ≡ course_of log → after_length v (meant_by c) ≡ says shows differ first → (run (actions_of (length log / 512) log) start).count ≡ record { shows = shows; differ = differ; first = first }
-    on (Bad r) c q h = let z : ◌≡◌ {A = ℕ} 0 1 = cc in absurd (omega arith)
-    on Good (stops r) q h = let z : ◌≡◌ {A = ℕ} 0 1 = cc in absurd (omega arith)
-    on Good (reads e s) q h =
+    on (Err r) c q h = let z : ◌≡◌ {A = ℕ} 0 1 = cc in absurd (omega arith)
+    on (Ok o) (stops r) q h = let z : ◌≡◌ {A = ℕ} 0 1 = cc in absurd (omega arith)
+    on (Ok o) (reads e s) q h =
         let a : s.count.shows ≡ shows = cc in
         let b : s.count.differ ≡ differ = cc in
         let d : s.count.first ≡ first = cc in
@@ -79,5 +70,5 @@ unfolding take_block
 no-such-block edition k ended e s t b h f m p = on (judge_block edition k 4 496 b) refl p
   where
     on : (v : Verdict) → v ≡ judge_block edition k 4 496 b → reads e t ≡ unless v (in_block k (take_records 31 ended s (payload_in b))) → ⊥
-    on Good q g = let i = index-small edition k 4 496 b h f q refl in omega arith
-    on (Bad r) q g = let z : ◌≡◌ {A = ℕ} 0 1 = cc in omega arith
+    on (Ok o) q g = let i = index-small edition k 4 496 b h f q refl in omega arith
+    on (Err r) q g = let z : ◌≡◌ {A = ℕ} 0 1 = cc in omega arith

@@ -1,14 +1,7 @@
 -- What a user wants to hear of the machine: right shows, stages without a swap, and one log behind another. Assumes nothing.
-use Rattle.std.specs.Prelude.{if◌then◌else◌}
-use mathlib.Core.Path.{◌≡◌, refl, ◌∙◌}
-use mathlib.Core.Bool.{Bool, true, false}
-use mathlib.Core.List.{List, [], ◌∷◌, ◌++◌}
-use Prim.Native.Nat.{ℕ, zero, suc}
-use native.Mathlib.Omega.{arith}
-use borrow.Author.Tests.{eq-eqb, ltb-true, ltb-false, eqb-true, eqb-false}
-use lib.Dec.{eqb, ltb}
-use lib.ListN.{length, take, drop, set, get_or, length-set}
-use lib.Seq.{get_or-set_same, get_or-set_other, set_out}
+use Rattle.std.proofs.Common.{if◌then◌else◌, ◌≡◌, refl, ◌∙◌, Bool, true, false, List, [], ◌∷◌, ◌++◌, ℕ, zero, suc, arith, eq-eqb, ltb-true, ltb-false, eqb-true, eqb, ltb, length, take, drop, set, get_or, length-set, get_or-set_same, get_or-set_other}
+use borrow.Author.Tests.{eqb-false}
+use Rattle.std.proofs.Math.Seq.{set_out}
 use Rattle.replay_record.specs.declared.Action.{Action}
 use Rattle.replay_record.specs.declared.Action.TheVariants.{Stage, Swap, Show}
 use Rattle.replay_record.specs.declared.Record.{Record}

@@ -41,13 +41,11 @@ pub fn find_ending(text: &[u8], events: &[u8], default: Ending) -> Ending
     ensures { Finds default text.now events.now result }
 {
     let n = event::count(events);
-    let mut i = 0;
-    while i < n {
+    for i in 0..n {
         let e = Event::read(events, EventIndex(i));
         if ends_line(e) {
             return parse(text, e);
         }
-        i += 1;
     }
     default
 }

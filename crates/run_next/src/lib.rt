@@ -106,14 +106,12 @@ fn next_definition(events: &[u8], from: usize) -> usize
     ensures { Walks true events.now false from false result }
 {
     let n = event::count(events);
-    let mut i = from;
-    while i < n {
+    for i in from..n {
         if is_definition(events, EventIndex(i)) {
             return i;
         }
-        i += 1;
     }
-    i
+    n.max(from)
 }
 
 // The pass over definitions need not look at what is between them.
@@ -135,17 +133,17 @@ fn walk(first: bool, p: Place, events: &[u8]) -> Place
     ensures { Ahead first events.now p result }
 {
     let n = event::count(events);
-    let mut at = p.at;
+    let start = p.at;
     let mut inside = p.inside;
-    while at < n {
+    for at in start..n {
         let i = EventIndex(at);
         if is_left(first, inside, events, i) {
             inside = stays_inside(inside, events, i);
-            at += 1;
             continue;
         }
         return Place { at, inside };
     }
+    let at = n.max(start);
     Place { at, inside }
 }
 

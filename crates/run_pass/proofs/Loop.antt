@@ -1,11 +1,7 @@
 -- The loop of a pass, step by step. Assumes nothing.
-use mathlib.Core.Path.{◌≡◌, refl, sym, ◌∙◌}
-use mathlib.Core.Bool.{Bool, true, false}
-use mathlib.Core.List.{List, [], ◌++◌}
-use mathlib.Core.Option.{some}
-use Prim.Native.Nat.{ℕ, ◌+◌, ◌-◌, ◌/◌, ◌≤◌, ◌<◌}
-use native.Mathlib.Omega.{arith}
-use lib.ListN.{length, take, drop}
+use Rattle.std.proofs.Common.{ap, not, is_some, Some, None, Ok, Err, is_none, ◌≡◌, refl, sym, ◌∙◌, Bool, true, false, List, [], ◌++◌, ℕ, ◌+◌, ◌-◌, ◌/◌, ◌≤◌, ◌<◌, arith, length, take, drop}
+use Rattle.std.specs.Prelude.{Option as CodeOption}
+use Rattle.std.proofs.Math.Option.{some}
 use Rattle.regions.specs.Sizes.{region_size, work_size}
 use Rattle.event.specs.declared.EventIndex.{EventIndex}
 use Rattle.event.specs.Event.{event_at}
@@ -19,15 +15,14 @@ use Rattle.dispatch_turns.specs.Loud.{Turned}
 use Rattle.dispatch_turns.specs.Passing.{turns_left, stays_inside, turn_at}
 use Rattle.dispatch_turns.proofs.Passing.{left_end, run-over, run_on}
 use Rattle.state_whole.specs.declared.Shortage.{Shortage}
-use Rattle.state_whole.specs.declared.Shortage.TheVariants.{Nothing, WorkFull, PageFull}
+use Rattle.state_whole.specs.declared.Shortage.TheVariants as S
 use Rattle.state_whole.specs.Lacking.{refusal_of, Lacks}
 use Rattle.run_next.specs.Reach.{Reaches, wanted}
 use Rattle.run_next.specs.Walks.{Steps}
 use Rattle.run_next.proofs.Turned.{turned}
-use Rattle.run_pass.specs.declared.Passed.TheVariants.{On}
-use Rattle.run_pass.specs.declared.Passed.TheVariants as P
+use Rattle.run_answer.specs.declared.Full.TheVariants as F
 use Rattle.run_pass.specs.Passing.{Refuses, Passes}
-use Rattle.run_pass.specs.Private.{has_room, full_of, Stays}
+use Rattle.run_pass.specs.Private.{full_of, Stays}
 
 -- ---- a turn
 
@@ -37,7 +32,7 @@ starts-so = record { reaches = λ rest s v y g. (s, y, g, refl) }
 module _ (definitions : Bool) {text events : List ℕ} (o : Options) {room : ℕ} {before : List Turn} {b : Whole} {w : World} (inside : Bool) (i : ℕ) {r : Whole} {w' : World} (h : i < length events / 20)
     (x : Reaches text events room before (turns_left definitions text events o inside i) b w r w') where
   module _ (p : wanted definitions inside (event_at events i) ≡ true) {q : Whole} {w'' : World} (k : Turned text events o i r w' q w'') (l : length w''.out ≡ length w'.out) where
-    goes_by : Lacks q room Nothing → Reaches text events room before (turns_left definitions text events o (stays_inside inside (event_at events i)) (i + 1)) b w q w''
+    goes_by : Lacks q room None → Reaches text events room before (turns_left definitions text events o (stays_inside inside (event_at events i)) (i + 1)) b w q w''
     goes_by n = record {
       reaches = λ rest s v y g.
           let a = turned definitions o inside i h x p k rest s v y g in
@@ -47,7 +42,7 @@ module _ (definitions : Bool) {text events : List ℕ} (o : Options) {room : ℕ
           (a.1, record { built = a.2; long = c; roomy = e }, a.4, a.6 ∙ z);
     }
 
-    refuses-at : {lack : Shortage} (number : ℕ) → Lacks q room lack → refusal_of lack ≡ some number → Refuses text events room before b w number i
+    refuses-at : {lack : CodeOption Shortage} (number : ℕ) → Lacks q room lack → refusal_of lack ≡ some number → Refuses text events room before b w number i
     unfolding turn_at
     refuses-at number n m = record {
       refuses = λ rest s v y g.
@@ -77,42 +72,47 @@ module _ {first : Bool} {text events : List ℕ} {o : Options} where
   steps-start : {b : Whole} {w : World} → Steps first text events o b w false 0 b w
   steps-start = record { reached = starts-so; long = refl }
 
-  pub stays-start : {b : Whole} {w : World} → Stays first text events o b w false 0 Nothing b w
+  pub stays-start : {b : Whole} {w : World} → Stays first text events o b w false 0 None b w
   stays-start = record { on = λ z. steps-start; past = no-clash; over = no-clash }
 
-  pub all-steps : {b : Whole} {w : World} {inside : Bool} {i : ℕ} {r : Whole} {w' : World} → length events / 20 ≤ i → Steps first text events o b w inside i r w' → Passes first text events o b w (On r) w'
+  pub all-steps : {b : Whole} {w : World} {inside : Bool} {i : ℕ} {r : Whole} {w' : World} → length events / 20 ≤ i → Steps first text events o b w inside i r w' → Passes first text events o b w (Ok r) w'
   all-steps {inside = inside} {i} h x = record { passes = ends_so first o inside i h x.reached }
 
   module _ {b : Whole} {w : World} {inside : Bool} {i : ℕ} {r : Whole} {w' : World} (h : i < length events / 20) (k : Steps first text events o b w inside i r w') where
     module _ {next : Bool} (m : next ≡ stays_inside inside (event_at events i)) (l : wanted first inside (event_at events i) ≡ true) {u : Whole} {w'' : World} (t : Turned text events o i r w' u w'') (n : length w''.out ≡ length w'.out) where
-      stepped : Lacks u (length w''.out) Nothing → Steps first text events o b w next (i + 1) u w''
+      stepped : Lacks u (length w''.out) None → Steps first text events o b w next (i + 1) u w''
       stepped a = rw m (record { reached = goes_by first o inside i h k.reached l t n (rw (← (n ∙ k.long)) a); long = n ∙ k.long })
 
-      refused-here : {lack : Shortage} (number : ℕ) → Lacks u (length w''.out) lack → refusal_of lack ≡ some number → Refuses text events (length w.out) (turns_left first text events o false 0) b w number i
+      refused-here : {lack : CodeOption Shortage} (number : ℕ) → Lacks u (length w''.out) lack → refusal_of lack ≡ some number → Refuses text events (length w.out) (turns_left first text events o false 0) b w number i
       refused-here {lack} number a e = let z : Lacks u (length w.out) lack = rw (← (n ∙ k.long)) a in refuses-at first o inside i h k.reached l t n {lack = lack} number z e
 
-      on-if : (lack : Shortage) → Lacks u (length w''.out) lack → has_room lack ≡ true → Steps first text events o b w next (i + 1) u w''
-      on-if Nothing a z = stepped a
-      on-if WorkFull a z = no-clash (sym z)
-      on-if PageFull a z = no-clash (sym z)
+      on-if : (lack : CodeOption Shortage) → Lacks u (length w''.out) lack → is_none lack ≡ true → Steps first text events o b w next (i + 1) u w''
+      on-if None a z = stepped a
+      on-if (Some S.Work) a z = no-clash (sym z)
+      on-if (Some S.Page) a z = no-clash (sym z)
 
-      over-if : (lack : Shortage) → Lacks u (length w''.out) lack → has_room lack ≡ false → Passes first text events o b w (full_of lack (record { 0 = i })) w''
-      over-if Nothing a z = no-clash z
-      over-if WorkFull a z = record { passes = refused-here 8 a refl }
-      over-if PageFull a z = record { passes = refused-here 9 a refl }
+      over-if : (lack : CodeOption Shortage) → Lacks u (length w''.out) lack → is_none lack ≡ false → Passes first text events o b w (Err (full_of lack (record { 0 = i }))) w''
+      over-if None a z = no-clash z
+      over-if (Some S.Work) a z = record { passes = refused-here 8 a refl }
+      over-if (Some S.Page) a z = record { passes = refused-here 9 a refl }
 
       -- the event is done
-      pub stays : {lack : Shortage} → Lacks u (length w''.out) lack → Stays first text events o b w next (i + 1) lack u w''
+      pub stays : {lack : CodeOption Shortage} → Lacks u (length w''.out) lack → Stays first text events o b w next (i + 1) lack u w''
       stays {lack} a = record { on = on-if lack a; past = λ z. omega arith; over = λ z. let e : i + 1 - 1 ≡ i = omega arith in rw e (over-if lack a z) }
 
 -- ---- what lacks room
 
-module _ {lack : Shortage} {place : EventIndex} where
-  pub full-work : lack ≡ WorkFull → P.WorkFull place ≡ full_of lack place
+-- what a test of it says
+pub told-so : (o : CodeOption Shortage) (t : Bool) {x : Bool} → is_some o ≡ not t → t ≡ x → is_none o ≡ x
+told-so o true p q = ap not p ∙ q
+told-so o false p q = ap not p ∙ q
+
+module _ {lack : CodeOption Shortage} {place : EventIndex} where
+  pub full-work : lack ≡ Some S.Work → F.Work place ≡ full_of lack place
   full-work p = rw p
 
-  pub full-none : lack ≡ Nothing → P.PageFull place ≡ full_of lack place
+  pub full-none : lack ≡ None → F.Page place ≡ full_of lack place
   full-none p = rw p
 
-  pub full-page : lack ≡ PageFull → P.PageFull place ≡ full_of lack place
+  pub full-page : lack ≡ Some S.Page → F.Page place ≡ full_of lack place
   full-page p = rw p

@@ -6,39 +6,22 @@ ghost use Rattle.regions.specs.Sizes.{work_size};
 ghost use Rattle.state_kept.specs.Kept.{tables};
 ghost use Rattle.dispatch_turns.specs.Loud.{world};
 ghost use Rattle.run_pass.specs.Passing.{Passes};
-ghost use Rattle.run_pass.specs.Private.{has_room, full_of};
+ghost use Rattle.run_pass.specs.Private.{full_of};
 
 use event::{Event, EventIndex};
 use machine::Options;
+use run_answer::Full;
 use run_next::Place;
 use state_whole::{Shortage, Whole};
 
-// What a pass comes to: the state after it, or the event after which the work bytes or the output have no room.
-#[derive(Clone, Copy)]
-pub enum Passed {
-    On(Whole),
-    WorkFull(EventIndex),
-    PageFull(EventIndex),
-}
-
-fn has_room(l: Shortage) -> bool
-    ensures { result ≡ has_room l }
-{
-    match l {
-        Shortage::Nothing => true,
-        Shortage::WorkFull => false,
-        Shortage::PageFull => false,
-    }
-}
-
 // What lacks room, after this event.
-fn full(l: Shortage, place: EventIndex) -> Passed
+fn full(l: Option<Shortage>, place: EventIndex) -> Full
     ensures { result ≡ full_of l place }
 {
     match l {
-        Shortage::WorkFull => Passed::WorkFull(place),
-        Shortage::Nothing => Passed::PageFull(place),
-        Shortage::PageFull => Passed::PageFull(place),
+        Some(Shortage::Work) => Full::Work(place),
+        Some(Shortage::Page) => Full::Page(place),
+        None => Full::Page(place),
     }
 }
 
@@ -56,7 +39,7 @@ pub fn pass(
     footnotes: &mut [usize],
     calls: &mut [usize],
     labels: &mut [usize],
-) -> Passed
+) -> Result<Whole, Full>
     requires { length work.old ≡ work_size }
     ensures { Passes first text.now events.now options b (world work.old out.old starts.old (tables definitions.old footnotes.old calls.old labels.old)) result (world work.new out.new starts.new (tables definitions.new footnotes.new calls.new labels.new)) }
 {
@@ -66,12 +49,13 @@ pub fn pass(
         at: 0,
         inside: false,
     };
-    let mut lack = Shortage::Nothing;
-    while has_room(lack) {
+    // Counted by hand: the walk says which event is next.
+    let mut lack = None;
+    while lack.is_none() {
         let next = run_next::ahead(first, p, events);
         let i = next.at;
         if n <= i {
-            return Passed::On(r);
+            return Ok(r);
         }
         let at = EventIndex(i);
         let inside = run_next::stays_inside(next.inside, events, at);
@@ -108,5 +92,5 @@ pub fn pass(
         lack = state_whole::lack(r, out.len());
     }
     let last = p.at - 1;
-    full(lack, EventIndex(last))
+    Err(full(lack, EventIndex(last)))
 }

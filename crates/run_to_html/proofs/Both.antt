@@ -1,11 +1,6 @@
 -- Both passes together, and the whole. Assumes nothing.
-use mathlib.Core.Path.{◌≡◌, refl, sym, ap, subst, ◌∙◌}
-use mathlib.Core.Bool.{Bool, true, false}
-use mathlib.Core.List.{List, [], append-nil}
-use mathlib.Core.Option.{none}
-use Prim.Native.Nat.{ℕ, zero-le}
-use borrow.Author.Tests.{le-ltb}
-use lib.ListN.{length}
+use Rattle.std.proofs.Common.{Result, Ok, Err, ◌≡◌, refl, sym, ap, subst, ◌∙◌, Bool, true, false, List, [], append-nil, ℕ, zero-le, le-ltb, length}
+use Rattle.std.proofs.Math.Option.{none}
 use Rattle.regions.specs.Sizes.{work_size}
 use Rattle.event.specs.declared.EventIndex.{EventIndex}
 use Rattle.event.specs.Event.{events_of}
@@ -24,11 +19,8 @@ use Rattle.state_kept.specs.Kept.{Long}
 use Rattle.state_whole.specs.declared.Whole.{Whole}
 use Rattle.state_whole.specs.Whole.{World}
 use Rattle.dispatch_turns.specs.Passing.{turns_left}
-use Rattle.run_pass.specs.declared.Passed.{Passed}
-use Rattle.run_pass.specs.declared.Passed.TheVariants.{On}
-use Rattle.run_pass.specs.declared.Passed.TheVariants as P
-use Rattle.run_answer.specs.declared.Rendered.{Rendered}
-use Rattle.run_answer.specs.declared.Rendered.TheVariants.{WorkFull, PageFull}
+use Rattle.run_answer.specs.declared.Full.{Full}
+use Rattle.run_answer.specs.declared.Full.TheVariants as F
 use Rattle.run_next.specs.Reach.{run, Stands}
 use Rattle.run_pass.specs.Passing.{Passes}
 use Rattle.run_to_html.specs.Renders.{Answers, Renders}
@@ -39,26 +31,22 @@ use Rattle.run_to_html.specs.Private.{Begun, Finishes, turns_from, FinishesAll}
 goes_none : {u v : State} → Goes [] u v → u ≡ v
 goes_none (ends s) = refl
 
-module _ {text events : List ℕ} {o : Options} {b : Whole} {w w' : World} {p : Passed} where
+module _ {text events : List ℕ} {o : Options} {b : Whole} {w w' : World} {p : Result Whole Full} where
   -- refused in a pass, the run is refused
-  module _ {place : EventIndex} {out : List ℕ} where
-    pub first-work : p ≡ P.WorkFull place → Passes true text events o b w p w' → FinishesAll true text events o b w out (WorkFull place)
-    first-work m x = let k = subst (λ q. Passes true text events o b w q w') m x in record { finishes = λ s v y g l. k.passes.refuses (turns_left false text events o false 0) s v y g }
+  module _ {out : List ℕ} where
+    pub first-full : (e : Full) → p ≡ Err e → Passes true text events o b w p w' → FinishesAll true text events o b w out (Err e)
+    first-full (F.Work place) m x = let k = subst (λ q. Passes true text events o b w q w') m x in record { finishes = λ s v y g l. k.passes.refuses (turns_left false text events o false 0) s v y g }
+    first-full (F.Page place) m x = let k = subst (λ q. Passes true text events o b w q w') m x in record { finishes = λ s v y g l. k.passes.refuses (turns_left false text events o false 0) s v y g }
 
-    pub first-page : p ≡ P.PageFull place → Passes true text events o b w p w' → FinishesAll true text events o b w out (PageFull place)
-    first-page m x = let k = subst (λ q. Passes true text events o b w q w') m x in record { finishes = λ s v y g l. k.passes.refuses (turns_left false text events o false 0) s v y g }
+    pub second-full : (e : Full) → p ≡ Err e → Passes false text events o b w p w' → FinishesAll false text events o b w out (Err e)
+    second-full (F.Work place) m x = let k = subst (λ q. Passes false text events o b w q w') m x in record { finishes = λ s v y g l. let e = append-nil (turns_left false text events o false 0) in rw e at (k.passes.refuses [] s v y (rw e g)) }
+    second-full (F.Page place) m x = let k = subst (λ q. Passes false text events o b w q w') m x in record { finishes = λ s v y g l. let e = append-nil (turns_left false text events o false 0) in rw e at (k.passes.refuses [] s v y (rw e g)) }
 
-    pub second-work : p ≡ P.WorkFull place → Passes false text events o b w p w' → FinishesAll false text events o b w out (WorkFull place)
-    second-work m x = let k = subst (λ q. Passes false text events o b w q w') m x in record { finishes = λ s v y g l. let e = append-nil (turns_left false text events o false 0) in rw e at (k.passes.refuses [] s v y (rw e g)) }
-
-    pub second-page : p ≡ P.PageFull place → Passes false text events o b w p w' → FinishesAll false text events o b w out (PageFull place)
-    second-page m x = let k = subst (λ q. Passes false text events o b w q w') m x in record { finishes = λ s v y g l. let e = append-nil (turns_left false text events o false 0) in rw e at (k.passes.refuses [] s v y (rw e g)) }
-
-  module _ {c : Whole} {out : List ℕ} {r : Rendered} (m : p ≡ On c) (long : length w'.out ≡ length w.out) where
+  module _ {c : Whole} {out : List ℕ} {r : Result ℕ Full} (m : p ≡ Ok c) (long : length w'.out ≡ length w.out) where
     pub first_on : Passes true text events o b w p w' → FinishesAll false text events o c w' out r → FinishesAll true text events o b w out r
     first_on x q = through (subst (λ y. Passes true text events o b w y w') m x)
       where
-        through : Passes true text events o b w (On c) w' → FinishesAll true text events o b w out r
+        through : Passes true text events o b w (Ok c) w' → FinishesAll true text events o b w out r
         through k = record {
           finishes = λ s v x g l.
               let f = k.passes.reaches (turns_left false text events o false 0) s v x g in
@@ -69,7 +57,7 @@ module _ {text events : List ℕ} {o : Options} {b : Whole} {w w' : World} {p : 
     pub second-on : Passes false text events o b w p w' → Finishes c text events w'.work w'.tables.footnotes w'.tables.calls w'.out out r → FinishesAll false text events o b w out r
     second-on x q = through (subst (λ y. Passes false text events o b w y w') m x)
       where
-        through : Passes false text events o b w (On c) w' → FinishesAll false text events o b w out r
+        through : Passes false text events o b w (Ok c) w' → FinishesAll false text events o b w out r
         through k = record {
           finishes = λ s v x g l.
               let e = append-nil (turns_left false text events o false 0) in
@@ -98,7 +86,7 @@ module _ (text events : List ℕ) (o : Options) (room : ℕ) where
   unfolding over captured held kept start
   start-roomy x = rw (le-ltb room 0 zero-le)
 
-pub renders : {text events : List ℕ} {o : Options} {ending : Ending} {b : Whole} {w : World} {out : List ℕ} {r : Rendered}
+pub renders : {text events : List ℕ} {o : Options} {ending : Ending} {b : Whole} {w : World} {out : List ℕ} {r : Result ℕ Full}
     → Finds o.ending text events ending → Begun (fixed_of o ending) b → length w.work ≡ work_size → length w.starts ≡ 64 → Long w.tables → FinishesAll true text events o b w out r → Renders text events o w.out out r
 renders {text} {events} {o} {ending} {b} {w} {out} {r} f k l n t q = record {
   renders = λ g.

@@ -1,10 +1,6 @@
 -- Behind the last event, and both passes together. Assumes nothing.
-use mathlib.Core.Path.{◌≡◌, refl, sym, ap, ◌∙◌}
-use mathlib.Core.List.{List, [], ◌∷◌}
-use mathlib.Core.Option.{none}
-use Prim.Native.Nat.{ℕ, ◌/◌, ◌≤◌, ◌<◌}
-use native.Mathlib.Omega.{arith}
-use lib.ListN.{length, take}
+use Rattle.std.proofs.Common.{Ok, Err, ◌≡◌, refl, sym, ap, ◌∙◌, List, [], ◌∷◌, ℕ, ◌/◌, ◌≤◌, ◌<◌, arith, length, take}
+use Rattle.std.proofs.Math.Option.{none}
 use Rattle.machine.specs.declared.Fixed.{Fixed}
 use Rattle.machine.specs.State.{State, Call}
 use Rattle.machine.specs.Outcome.{go}
@@ -22,8 +18,7 @@ use Rattle.state_context.specs.Rel.{fixed_in}
 use Rattle.write_section.specs.Clauses.{WritesSection}
 use Rattle.state_whole.specs.declared.Whole.{Whole}
 use Rattle.state_whole.specs.Whole.{World}
-use Rattle.run_answer.specs.declared.Rendered.{Rendered}
-use Rattle.run_answer.specs.declared.Rendered.TheVariants.{Page, PageFull}
+use Rattle.run_answer.specs.declared.Full.TheVariants as F
 use Rattle.run_next.specs.Reach.{Stands}
 use Rattle.run_to_html.specs.Renders.{Answers}
 use Rattle.run_to_html.specs.Private.{Last, Finishes}
@@ -49,7 +44,7 @@ over-so out at b h l = let p = h.place in omega arith
 place_of : (out : List ℕ) (at : ℕ) (b : List ℕ) → Holds out at b → length b ≤ length out → at ≤ length out
 place_of out at b h l = let p = h.place in omega arith
 
-answered : {out : List ℕ} {at : ℕ} {b : List ℕ} {a : Answer} → Standing out at b → a ≡ page b → Answers out (Page at) a
+answered : {out : List ℕ} {at : ℕ} {b : List ℕ} {a : Answer} → Standing out at b → a ≡ page b → Answers out (Ok at) a
 answered x p = (p ∙ ap page x.bytes, x.fits)
 
 -- ---- no section
@@ -62,7 +57,7 @@ some_of : {A : Type 0} (xs : List A) → (length xs ≡ 0 → ⊥) → (x : A) �
 some_of [] h = absurd (h refl)
 some_of (x ∷ xs) h = (x, xs, refl)
 
-pub ends-plain : {b : Whole} {text events work footnotes calls out : List ℕ} → b.kept.calls ≡ 0 → Finishes b text events work footnotes calls out out (Page b.context.buffers.page)
+pub ends-plain : {b : Whole} {text events work footnotes calls out : List ℕ} → b.kept.calls ≡ 0 → Finishes b text events work footnotes calls out out (Ok b.context.buffers.page)
 ends-plain {b} {events = events} {out = out} z =
     record {
       finishes = λ w s i j f g x l.
@@ -99,7 +94,7 @@ module _ (b : Whole) {text work footnotes calls out out' : List ℕ} {end : ℕ}
       record { after = e.0; goes = e.1; appends = e.2; holds = r.0; long = r.1 }
 
   module _ {events : List ℕ} (z : b.kept.calls ≡ 0 → ⊥) where
-    pub ends-section : end ≤ length out' → Finishes b text events work footnotes calls out out' (Page end)
+    pub ends-section : end ≤ length out' → Finishes b text events work footnotes calls out out' (Ok end)
     ends-section n =
         record {
           finishes = λ w s i j f g x l.
@@ -113,7 +108,7 @@ module _ (b : Whole) {text work footnotes calls out out' : List ℕ} {end : ℕ}
         long-so : {b : List ℕ} → Holds out' end b → length out' ≡ length out → end ≤ length out' → length b ≤ length out
         long-so h l n = let p = h.place in omega arith
 
-    pub ends-over : length out' < end → Finishes b text events work footnotes calls out out' (PageFull (record { 0 = length events / 20 }))
+    pub ends-over : length out' < end → Finishes b text events work footnotes calls out out' (Err (F.Page (record { 0 = length events / 20 })))
     ends-over n =
         record {
           finishes = λ w s i j f g x l.

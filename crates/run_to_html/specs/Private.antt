@@ -1,5 +1,5 @@
 -- What the inner functions do: no part of a promise. Assumes nothing.
-use Rattle.std.specs.Prelude.{◌≡◌, Bool, true, false, List, [], ◌++◌, ℕ, length}
+use Rattle.std.specs.Prelude.{Result, ◌≡◌, Bool, true, false, List, [], ◌++◌, ℕ, length}
 use Rattle.regions.specs.Sizes.{work_size}
 use Rattle.machine.specs.declared.Options.{Options}
 use Rattle.machine.specs.declared.Fixed.{Fixed}
@@ -13,7 +13,7 @@ use Rattle.state_whole.specs.declared.Whole.{Whole}
 use Rattle.state_whole.specs.Whole.{World, Mirrors}
 use Rattle.dispatch_turns.specs.Passing.{turns_left}
 use Rattle.run_next.specs.Reach.{run, Stands}
-use Rattle.run_answer.specs.declared.Rendered.{Rendered}
+use Rattle.run_answer.specs.declared.Full.{Full}
 use Rattle.run_to_html.specs.Renders.{Answers}
 
 -- before the first event, whatever is lent
@@ -27,7 +27,7 @@ pub record Last (v : State) : Type 0 where
   pub called : Called v
 
 -- behind the last event
-pub record Finishes (b : Whole) (text events work footnotes calls out out' : List ℕ) (r : Rendered) : Type 0 where
+pub record Finishes (b : Whole) (text events work footnotes calls out out' : List ℕ) (r : Result ℕ Full) : Type 0 where
   pub finishes : (w : World) (s : State) → w.work ≡ work → w.out ≡ out → w.tables.footnotes ≡ footnotes → w.tables.calls ≡ calls → Stands text (length out) b w s → Last s → Answers out' r (run events (length out) [] s)
 
 -- the turns of both passes, or of the second
@@ -36,5 +36,5 @@ turns_from true text events o = turns_left true text events o false 0 ++ turns_l
 turns_from false text events o = turns_left false text events o false 0
 
 -- over them, to the end
-pub record FinishesAll (definitions : Bool) (text events : List ℕ) (o : Options) (b : Whole) (w : World) (out' : List ℕ) (r : Rendered) : Type 0 where
+pub record FinishesAll (definitions : Bool) (text events : List ℕ) (o : Options) (b : Whole) (w : World) (out' : List ℕ) (r : Result ℕ Full) : Type 0 where
   pub finishes : (s v : State) → Stands text (length w.out) b w s → Goes (turns_from definitions text events o) s v → Last v → Answers out' r (run events (length w.out) (turns_from definitions text events o) s)

@@ -10,8 +10,7 @@ ghost use Rattle.run_to_html.specs.Private.{Begun, Finishes, FinishesAll};
 
 use event::EventIndex;
 use machine::{Fixed, Options};
-use run_answer::Rendered;
-use run_pass::Passed;
+use run_answer::Full;
 use state_whole::Whole;
 
 // Before the first event.
@@ -36,22 +35,22 @@ fn finish(
     footnotes: &[usize],
     calls: &[usize],
     out: &mut [u8],
-) -> Rendered
+) -> Result<usize, Full>
     ensures { Finishes b text.now events.now work.now footnotes.now calls.now out.old out.new result }
 {
     let c = b.context;
     let k = b.kept;
     let at = c.buffers.page;
     if k.calls == 0 {
-        return Rendered::Page(at);
+        return Ok(at);
     }
     let fixed = state_context::fixed_in(c);
     let end = write_section::footnote_section(k, fixed, text, work, footnotes, calls, out, at);
     if out.len() < end {
         let n = event::count(events);
-        return Rendered::PageFull(EventIndex(n));
+        return Err(Full::Page(EventIndex(n)));
     }
-    Rendered::Page(end)
+    Ok(end)
 }
 
 // The pass over all but definitions, and the rest.
@@ -67,11 +66,11 @@ fn second(
     footnotes: &mut [usize],
     calls: &mut [usize],
     labels: &mut [usize],
-) -> Rendered
+) -> Result<usize, Full>
     requires { length work.old ≡ work_size }
     ensures { FinishesAll false text.now events.now options b (world work.old out.old starts.old (tables definitions.old footnotes.old calls.old labels.old)) out.new result }
 {
-    let p = run_pass::pass(
+    let c = run_pass::pass(
         b,
         false,
         text,
@@ -84,12 +83,8 @@ fn second(
         footnotes,
         calls,
         labels,
-    );
-    match p {
-        Passed::WorkFull(place) => Rendered::WorkFull(place),
-        Passed::PageFull(place) => Rendered::PageFull(place),
-        Passed::On(c) => finish(c, text, events, work, footnotes, calls, out),
-    }
+    )?;
+    finish(c, text, events, work, footnotes, calls, out)
 }
 
 // Both passes, and the rest.
@@ -105,11 +100,11 @@ fn compile(
     footnotes: &mut [usize],
     calls: &mut [usize],
     labels: &mut [usize],
-) -> Rendered
+) -> Result<usize, Full>
     requires { length work.old ≡ work_size }
     ensures { FinishesAll true text.now events.now options b (world work.old out.old starts.old (tables definitions.old footnotes.old calls.old labels.old)) out.new result }
 {
-    let p = run_pass::pass(
+    let c = run_pass::pass(
         b,
         true,
         text,
@@ -122,24 +117,20 @@ fn compile(
         footnotes,
         calls,
         labels,
-    );
-    match p {
-        Passed::WorkFull(place) => Rendered::WorkFull(place),
-        Passed::PageFull(place) => Rendered::PageFull(place),
-        Passed::On(c) => second(
-            c,
-            text,
-            events,
-            options,
-            work,
-            starts,
-            out,
-            definitions,
-            footnotes,
-            calls,
-            labels,
-        ),
-    }
+    )?;
+    second(
+        c,
+        text,
+        events,
+        options,
+        work,
+        starts,
+        out,
+        definitions,
+        footnotes,
+        calls,
+        labels,
+    )
 }
 
 // The page of a text and its events, in the first bytes of the output. What the work bytes held before does not matter.
@@ -149,7 +140,7 @@ pub fn to_html(
     options: Options,
     out: &mut [u8],
     work: &mut [u8],
-) -> Rendered
+) -> Result<usize, Full>
     requires { length work.old ≡ work_size }
     ensures { Renders text.now events.now options out.old out.new result }
 {

@@ -1,14 +1,7 @@
 -- The scheme of a percent-encoded URL: that of the given one, or both have a byte that no scheme has. Assumes nothing.
-use Rattle.std.specs.Prelude.{if◌then◌else◌}
-use mathlib.Core.Path.{◌≡◌, refl, sym, ap, ◌∙◌}
-use mathlib.Core.Bool.{Bool, true, false, not, or-true}
-use mathlib.Core.List.{List, [], ◌∷◌, ◌++◌}
-use mathlib.Core.Option.{Option, none, some}
-use Prim.Native.Nat.{ℕ, ◌+◌, ◌/◌, ◌%◌, ◌≤◌}
+use Rattle.std.proofs.Common.{if◌then◌else◌, ◌≡◌, refl, sym, ap, ◌∙◌, Bool, true, false, not, List, [], ◌∷◌, ◌++◌, Option, Some, None, ℕ, ◌+◌, ◌/◌, ◌%◌, ◌≤◌, arith, ne_eqb, lt-ltb, le-ltb, eqb}
+use mathlib.Core.Bool.{or-true}
 use native.Mathlib.Decide.{dec_lt, ℕ_discrete}
-use native.Mathlib.Omega.{arith}
-use borrow.Author.Tests.{ne_eqb, lt-ltb, le-ltb}
-use lib.Dec.{eqb}
 use Rattle.lent.specs.Bytes.{any}
 use Rattle.url_byte.specs.Byte.{is_kept, stays, hex_upper, percent, url_byte}
 use Rattle.url_byte.proofs.Laws.{unlike}
@@ -20,9 +13,9 @@ is_odd b = not (is_kept b)
 
 -- the same, or both with a byte that no scheme has
 pub data Alike : Option (List ℕ) → Option (List ℕ) → Type 0 where
-  neither : Alike none none
-  equal : {s : List ℕ} → Alike (some s) (some s)
-  strange : {s t : List ℕ} → any is_odd s ≡ true → any is_odd t ≡ true → Alike (some s) (some t)
+  neither : Alike None None
+  equal : {s : List ℕ} → Alike (Some s) (Some s)
+  strange : {s t : List ℕ} → any is_odd s ≡ true → any is_odd t ≡ true → Alike (Some s) (Some t)
 
 odd-first : (b : ℕ) (s : List ℕ) → is_kept b ≡ false → any is_odd (b ∷ s) ≡ true
 odd-first b s p = rw p
@@ -77,7 +70,7 @@ kept-bar b k p q = ne_eqb b k (λ e. unlike k b q p (sym e))
 odd-plain : (b : ℕ) (l : List ℕ) → is_kept b ≡ false → scheme_of (b ∷ l) ≡ led b (scheme_of l)
 odd-plain b l p = plain b l (kept-bar b 58 p refl) (rw (kept-bar b 63 p refl, kept-bar b 35 p refl, kept-bar b 47 p refl))
 
-kept-led : (b : ℕ) {x y : Option (List ℕ)} (c r : Bool) → Alike x y → Alike (if c then some [] else (if r then none else led b x)) (if c then some [] else (if r then none else led b y))
+kept-led : (b : ℕ) {x y : Option (List ℕ)} (c r : Bool) → Alike x y → Alike (if c then Some [] else (if r then None else led b x)) (if c then Some [] else (if r then None else led b y))
 kept-led b true r h = equal
 kept-led b false true h = neither
 kept-led b false false h = alike-led b h

@@ -1,13 +1,7 @@
 -- A URL is judged alike as it is given and percent-encoded, by schemes of kept bytes: RULES R11.5. Assumes nothing.
-use mathlib.Core.Path.{◌≡◌, refl, sym, ◌∙◌}
-use mathlib.Core.Bool.{Bool, true, false, ◌&&◌, true≢false, or-true, and-false}
-use mathlib.Core.List.{List, [], ◌∷◌}
-use mathlib.Core.Option.{Option}
-use Prim.Native.Nat.{ℕ, ◌≤◌}
+use Rattle.std.proofs.Common.{◌≡◌, refl, sym, ◌∙◌, Bool, true, false, ◌&&◌, true≢false, List, [], ◌∷◌, Option, ℕ, ◌≤◌, arith, le-leb, eqb}
+use mathlib.Core.Bool.{or-true, and-false}
 use native.Mathlib.Decide.{dec_lt}
-use native.Mathlib.Omega.{arith}
-use borrow.Author.Tests.{le-leb}
-use lib.Dec.{eqb}
 use Rattle.lent.specs.Bytes.{bytes, all, any, same, mapped, lower, listed}
 use Rattle.lent.proofs.Laws.{and_left, and_right}
 use Rattle.url_byte.specs.Byte.{is_kept, stays, hex_upper, percent, url_byte}

@@ -1,21 +1,19 @@
 -- URLs whose scheme must be listed, RULES R11.5 (`sanitize_with_protocols`). Assumes nothing.
-use Rattle.std.specs.Prelude.{Bool, true, List, [], ◌∷◌, ℕ, ◌+◌, eqb, take, if◌then◌else◌}
+use Rattle.std.specs.Prelude.{Bool, true, List, [], ◌∷◌, ℕ, ◌+◌, eqb, take, Option, Some, None, if◌then◌else◌}
 use Rattle.lent.specs.Bytes.{bytes, one_of, listed, mapped, lower}
-use Rattle.sanitize_uri.specs.declared.Colon.{Colon}
-use Rattle.sanitize_uri.specs.declared.Colon.TheVariants.{At, Missing}
 use Rattle.sanitize_uri.specs.declared.Protocols.{Protocols}
 use Rattle.sanitize_uri.specs.declared.Protocols.TheVariants.{Link, Image}
 use Rattle.sanitize_uri.specs.Url.{sanitize_of}
 
 -- a colon that comes before the first ? # or /, looked for in what stands from the place i on
-unfoldable pub colon_from : ℕ → List ℕ → Colon
-colon_from i [] = Missing
+unfoldable pub colon_from : ℕ → List ℕ → Option ℕ
+colon_from i [] = None
 colon_from i (b ∷ bs) =
-    if eqb b 58 then At i
-    else (if one_of (bytes "?#/") b then Missing
+    if eqb b 58 then Some i
+    else (if one_of (bytes "?#/") b then None
     else colon_from (i + 1) bs)
 
-unfoldable pub colon_of : List ℕ → Colon
+unfoldable pub colon_of : List ℕ → Option ℕ
 colon_of url = colon_from 0 url
 
 abbrev pub link_schemes : List (List ℕ)
@@ -29,9 +27,9 @@ schemes_of Link = link_schemes
 schemes_of Image = image_schemes
 
 -- what stands before the colon, in lower case, must be listed
-abbrev pub allowed_at : List (List ℕ) → List ℕ → Colon → Bool
-allowed_at schemes url (At n) = listed schemes (mapped lower (take n url))
-allowed_at schemes url Missing = true
+abbrev pub allowed_at : List (List ℕ) → List ℕ → Option ℕ → Bool
+allowed_at schemes url (Some n) = listed schemes (mapped lower (take n url))
+allowed_at schemes url None = true
 
 unfoldable pub is_allowed : List (List ℕ) → List ℕ → Bool
 is_allowed schemes url = allowed_at schemes url (colon_of url)

@@ -3,9 +3,11 @@
 
 ghost use Rattle.std.specs.Prelude.{◌≡◌};
 ghost use Rattle.lent.specs.Bytes.{same, mapped, lower, listed};
-ghost use Rattle.lent.specs.Fill.{Filled};
+ghost use Rattle.lent.specs.Writer.{Writes};
 ghost use Rattle.sanitize_uri.specs.Url.{sanitize_of};
 ghost use Rattle.sanitize_uri.specs.Protocols.{colon_of, schemes_of, is_allowed, sanitize_with_protocols_of};
+
+use lent::Writer;
 
 // Which schemes a URL may have.
 #[derive(Clone, Copy)]
@@ -16,19 +18,12 @@ pub enum Protocols {
     Image,
 }
 
-// A colon that comes before the first `?`, `#` or `/`.
-#[derive(Clone, Copy)]
-pub enum Colon {
-    At(usize),
-    Missing,
-}
-
 // Appends the URL, percent-encoded and safe for an attribute; `'` is escaped where it is asked for.
-pub fn sanitize(value: &[u8], apostrophes: bool, out: &mut [u8], at: usize) -> usize
-    ensures { Filled out.old at (sanitize_of apostrophes value.now) out.new result }
+pub fn sanitize(value: &[u8], apostrophes: bool, out: &mut Writer)
+    ensures { Writes (sanitize_of apostrophes value.now) out.old out.new }
 {
     let escaping = encode_byte::escaping_of(true, apostrophes);
-    normalize_uri::put_url(value, escaping, out, at)
+    normalize_uri::put_url(value, escaping, out);
 }
 
 // The same, or nothing where the URL has a scheme that is not listed.
@@ -36,41 +31,36 @@ pub fn sanitize_with_protocols(
     value: &[u8],
     protocols: Protocols,
     apostrophes: bool,
-    out: &mut [u8],
-    at: usize,
-) -> usize
-    ensures { Filled out.old at (sanitize_with_protocols_of apostrophes (schemes_of protocols) value.now) out.new result }
+    out: &mut Writer,
+)
+    ensures { Writes (sanitize_with_protocols_of apostrophes (schemes_of protocols) value.now) out.old out.new }
 {
-    if !is_allowed(value, protocols) {
-        return at;
+    if is_allowed(value, protocols) {
+        sanitize(value, apostrophes, out);
     }
-    sanitize(value, apostrophes, out, at)
 }
 
 fn is_allowed(value: &[u8], protocols: Protocols) -> bool
     ensures { result ≡ is_allowed (schemes_of protocols) value.now }
 {
     match scheme_colon(value) {
-        Colon::At(n) => is_listed(&value[0..n], protocols),
-        Colon::Missing => true,
+        Some(n) => is_listed(&value[0..n], protocols),
+        None => true,
     }
 }
 
-fn scheme_colon(value: &[u8]) -> Colon
+// The place of a colon that comes before the first `?`, `#` or `/`.
+fn scheme_colon(value: &[u8]) -> Option<usize>
     ensures { result ≡ colon_of value.now }
 {
-    let mut i = 0;
-    while i < value.len() {
-        let b = value[i];
-        if b == b':' {
-            return Colon::At(i);
+    for (i, &b) in value.iter().enumerate() {
+        match b {
+            b':' => return Some(i),
+            b'#' | b'/' | b'?' => return None,
+            _ => {}
         }
-        if (b == b'?') | (b == b'#') | (b == b'/') {
-            return Colon::Missing;
-        }
-        i += 1;
     }
-    Colon::Missing
+    None
 }
 
 fn is_listed(scheme: &[u8], protocols: Protocols) -> bool
@@ -99,31 +89,9 @@ fn is_link_scheme(scheme: &[u8]) -> bool
         | is_word(scheme, b"xmpp")
 }
 
-// Whether `scheme`, in lower case, is the word.
+// Whether `scheme` is the word, letters in either case.
 fn is_word(scheme: &[u8], word: &[u8]) -> bool
-    ensures { result ≡ same (mapped lower scheme.now) word.now }
+    ensures { result ≡ same (mapped lower scheme.now) (mapped lower word.now) }
 {
-    if scheme.len() != word.len() {
-        return false;
-    }
-    let mut i = 0;
-    while i < scheme.len() {
-        if to_lower(scheme[i]) != word[i] {
-            return false;
-        }
-        i += 1;
-    }
-    true
-}
-
-fn to_lower(b: u8) -> u8
-    ensures { result ≡ lower b }
-{
-    if b < 65 {
-        return b;
-    }
-    if b <= 90 {
-        return b + 32;
-    }
-    b
+    scheme.eq_ignore_ascii_case(word)
 }

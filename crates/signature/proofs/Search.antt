@@ -1,20 +1,8 @@
 -- Why the search finds the first: the labels from a row on. Assumes nothing.
-use mathlib.Core.Path.{◌≡◌, refl, sym}
-use mathlib.Core.Bool.{Bool, true, false}
-use mathlib.Core.List.{List, [], ◌∷◌}
-use Prim.Native.Nat.{ℕ, zero, suc, min, ◌+◌, ◌-◌, ◌<◌, ◌≤◌}
-use native.Mathlib.Omega.{arith}
-use native.Mathlib.Numerals.{add-one}
-use lib.ListN.{length, get_or, take, drop, drop_of_length-le, length-take}
-use lib.Seq.{drop-cons, get_or-take}
+use Rattle.std.proofs.Common.{eq-eqb, ne_eqb, Some, None, ◌≡◌, refl, sym, Bool, true, false, List, [], ◌∷◌, ℕ, zero, suc, min, ◌+◌, ◌-◌, ◌<◌, ◌≤◌, arith, add-one, length, get_or, take, drop, drop_of_length-le, length-take, drop-cons, get_or-take}
 use Rattle.lent.specs.Bytes.{same}
-use Rattle.normalize_identifier.specs.declared.Cursor.{Cursor}
-use Rattle.normalize_identifier.specs.declared.Step.{Step}
-use Rattle.normalize_identifier.specs.declared.Step.TheVariants.{Byte, End}
-use Rattle.normalize_identifier.specs.declared.Found.TheVariants.{At, Nothing}
-use Rattle.normalize_identifier.specs.Identity.{identity_of, left_at, Spells}
+use Rattle.normalize_identifier.specs.Identity.{identity_of}
 use Rattle.normalize_identifier.specs.Search.{parts, labels_of, first_from, first_same}
-use Rattle.normalize_identifier.proofs.Compare.{same_end, ended, not-ended}
 use Rattle.signature.specs.declared.Signature.{Signature}
 use Rattle.signature.specs.Signature.{signature_of}
 use Rattle.signature.specs.Signed.{Signs, RowDiffers, Finds}
@@ -73,14 +61,14 @@ unfolding first_same
 seek-start text starts ends firsts seconds n label = record { seeks = λ g. refl }
 
 module _ {text starts ends firsts seconds : List ℕ} {n : ℕ} {label : List ℕ} {k : ℕ} (s : Seeking text starts ends firsts seconds n label k) where
-  none : length (labels_of text starts ends n) ≤ k → Finds text starts ends firsts seconds n label Nothing
+  none : length (labels_of text starts ends n) ≤ k → Finds text starts ends firsts seconds n label None
   unfolding first_from
   none h = record { finds = λ g. rw (drop_of_length-le (labels_of text starts ends n) h) at (s.seeks g) }
 
-  pub none_left : {rows least : ℕ} → least ≡ min (length starts) (length ends) → rows ≡ min n least → rows ≤ k → Finds text starts ends firsts seconds n label Nothing
+  pub none_left : {rows least : ℕ} → least ≡ min n (length starts) → rows ≡ min least (length ends) → rows ≤ k → Finds text starts ends firsts seconds n label None
   none_left e f h = let r = rows_long text starts ends n in none (omega (arith, r.0, r.1, r.2))
 
-  module _ {rows least : ℕ} (a : least ≡ min (length starts) (length ends)) (b : rows ≡ min n least) (c : k < rows) where
+  module _ {rows least : ℕ} (a : least ≡ min n (length starts)) (b : rows ≡ min least (length ends)) (c : k < rows) where
     h : k < n
     h = omega arith
 
@@ -108,15 +96,24 @@ module _ {text starts ends firsts seconds : List ℕ} {n : ℕ} {label : List �
       unfolding first_from
       seek-more f = record { seeks = λ g. rw (row_first text starts ends n h i j, is f) at (s.seeks g) }
 
-      pub seek_found : true ≡ same (identity_of entry) (identity_of label) → Finds text starts ends firsts seconds n label (At k)
+      pub seek_found : true ≡ same (identity_of entry) (identity_of label) → Finds text starts ends firsts seconds n label (Some k)
       unfolding first_from
       seek_found f = record { finds = λ g. rw (row_first text starts ends n h i j, is f) at (s.seeks g) }
 
--- ---- at the end of a row's label
+-- ---- two iterators, by what they had left and what they gave
 
-module _ {a : List ℕ} {c : Cursor} {m : Step} {w : Bool} (b : List ℕ) (d : Cursor) (e : same (left_at a c) (left_at b d) ≡ w) (s : Spells a c m) (p : m ≡ End) {n : Step} (t : Spells b d n) where
-  pub same-shorter : {y : ℕ} {g : Cursor} → n ≡ Byte y g → false ≡ w
-  same-shorter q = same_end b d e s p (not-ended t q)
+module _ {xs ys : List ℕ} {w : Bool} (e : same xs ys ≡ w) where
+  pub same-more : {x y : ℕ} {xs' ys' : List ℕ} → xs ≡ x ∷ xs' → ys ≡ y ∷ ys' → x ≡ y → same xs' ys' ≡ w
+  same-more {x} {y} p q h = let z = eq-eqb x y h in rw (p, q, z) at e
 
-  pub same-both : n ≡ End → true ≡ w
-  same-both q = same_end b d e s p (ended t q)
+  pub same-differ : {x y : ℕ} {xs' ys' : List ℕ} → xs ≡ x ∷ xs' → ys ≡ y ∷ ys' → (x ≡ y → ⊥) → false ≡ w
+  same-differ {x} {y} p q h = let z = ne_eqb x y h in rw (p, q, z) at e
+
+  pub same-longer : {x : ℕ} {xs' : List ℕ} → xs ≡ x ∷ xs' → ys ≡ [] → false ≡ w
+  same-longer p q = rw (p, q) at e
+
+  pub same-shorter : {y : ℕ} {ys' : List ℕ} → xs ≡ [] → ys ≡ y ∷ ys' → false ≡ w
+  same-shorter p q = rw (p, q) at e
+
+  pub same-both : xs ≡ [] → ys ≡ [] → true ≡ w
+  same-both p q = rw (p, q) at e

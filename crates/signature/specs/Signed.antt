@@ -1,8 +1,7 @@
 -- Tables of labels with their signatures, and the search in one. Assumes nothing.
 use Rattle.std.specs.Prelude.{◌≡◌, Bool, true, List, [], ℕ, ◌<◌, length, get_or}
-use Rattle.normalize_identifier.specs.declared.Found.{Found}
 use Rattle.normalize_identifier.specs.Identity.{identity_of}
-use Rattle.normalize_identifier.specs.Search.{labels_of, first_same}
+use Rattle.normalize_identifier.specs.Search.{Found, labels_of, first_same}
 use Rattle.signature.specs.declared.Signature.{Signature}
 use Rattle.signature.specs.Signature.{words, signature_of}
 

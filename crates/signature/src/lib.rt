@@ -1,18 +1,27 @@
 // Signatures of label identities, and the search for a label in a table, which compares only labels of one signature.
 #![tactic(auto)]
 
-ghost use Rattle.std.specs.Prelude.{◌≡◌, ◌-◌, min, take, drop};
+ghost use Rattle.std.specs.Prelude.{◌≡◌, ◌-◌, take, drop};
 ghost use Rattle.normalize_identifier.specs.Identity.{identity_of};
 ghost use Rattle.signature.specs.Signature.{low_product, high_product, turn, mix, signature_of};
 ghost use Rattle.signature.specs.Signed.{Differs, RowDiffers, Finds};
 
-use normalize_identifier::{Found, Step};
+use normalize_identifier::Identity;
 
 // What labels of one identity share. Labels of two identities that share it are not made by hand: it has 128 bits, and no step of it is linear.
-#[derive(Clone, Copy)]
+#[derive(Clone, Copy, PartialEq, Eq)]
 pub struct Signature {
     pub first: usize,
     pub second: usize,
+}
+
+// The columns of a table of labels: their places in a text, and their signatures.
+#[derive(Clone, Copy)]
+pub struct Columns<'a> {
+    pub starts: &'a [usize],
+    pub ends: &'a [usize],
+    pub firsts: &'a [usize],
+    pub seconds: &'a [usize],
 }
 
 fn low_product(x: usize) -> usize
@@ -50,111 +59,68 @@ fn mixed(s: Signature, b: u8) -> Signature
 pub fn sign(label: &[u8]) -> Signature
     ensures { result ≡ signature_of (identity_of label.now) }
 {
-    let mut c = normalize_identifier::start();
-    let mut s = Signature {
+    let before = Signature {
         first: 0x243F_6A88_85A3_08D3,
         second: 0x1319_8A2E_0370_7344,
     };
-    loop {
-        let Step::Byte(b, d) = normalize_identifier::next(label, c) else {
-            return s;
-        };
-        s = mixed(s, b);
-        c = d;
-    }
+    Identity::new(label).fold(before, mixed)
 }
 
 // Whether two words are another signature, so that their label is another.
 pub fn differs(first: usize, second: usize, s: Signature) -> bool
     ensures { Differs first second s result }
 {
-    if first != s.first {
-        return true;
-    }
-    second != s.second
+    Signature { first, second } != s
 }
 
 // Whether row k has another signature.
-fn row_differs(firsts: &[usize], seconds: &[usize], k: usize, s: Signature) -> bool
-    ensures { RowDiffers firsts.now seconds.now k s result }
+fn row_differs(columns: Columns, k: usize, s: Signature) -> bool
+    ensures { RowDiffers columns.entry.firsts.now columns.entry.seconds.now k s result }
 {
-    if firsts.len() <= k {
-        return false;
+    match (columns.firsts.get(k), columns.seconds.get(k)) {
+        (Some(first), Some(second)) => differs(*first, *second, s),
+        _ => false,
     }
-    if seconds.len() <= k {
-        return false;
-    }
-    differs(firsts[k], seconds[k], s)
 }
 
 // The text from a place to another, as much of it as there is.
 pub fn part(text: &[u8], from: usize, to: usize) -> &[u8]
     ensures { result.now ≡ take (to - from) (drop from text.now) }
 {
-    if to < from {
-        return &text[0..0];
-    }
-    if text.len() < from {
-        return &text[0..0];
-    }
-    if text.len() < to {
-        return &text[from..];
-    }
-    &text[from..to]
-}
-
-fn least(a: usize, b: usize) -> usize
-    ensures { result ≡ min a b }
-{
-    if a < b {
-        return a;
-    }
-    b
+    let end = to.min(text.len());
+    text.get(from..end).unwrap_or(&[])
 }
 
 // The first of n labels, the parts of `text` from each start to its end, that has the identity of `label`.
-pub fn find(
-    text: &[u8],
-    starts: &[usize],
-    ends: &[usize],
-    firsts: &[usize],
-    seconds: &[usize],
-    n: usize,
-    label: &[u8],
-) -> Found
-    ensures { Finds text.now starts.now ends.now firsts.now seconds.now n label.now result }
+// Loops that a label and an index leave, and no chain: docs/RULES.md, R18.4, names this form here.
+pub fn find(text: &[u8], columns: Columns, n: usize, label: &[u8]) -> Option<usize>
+    ensures { Finds text.now columns.entry.starts.now columns.entry.ends.now columns.entry.firsts.now columns.entry.seconds.now n label.now result }
 {
     let s = sign(label);
-    let rows = least(n, least(starts.len(), ends.len()));
+    let rows = n.min(columns.starts.len()).min(columns.ends.len());
     let mut k: usize = 0;
-    let found = 'search: loop {
+    'search: loop {
         if rows <= k {
-            break Found::Nothing;
+            break None;
         }
-        if row_differs(firsts, seconds, k, s) {
+        if row_differs(columns, k, s) {
             k += 1;
             continue;
         }
-        let entry = part(text, starts[k], ends[k]);
-        let mut c = normalize_identifier::start();
-        let mut d = normalize_identifier::start();
+        let entry = part(text, columns.starts[k], columns.ends[k]);
+        let mut ours = Identity::new(entry);
+        let mut theirs = Identity::new(label);
         'same: loop {
-            let Step::Byte(x, e) = normalize_identifier::next(entry, c) else {
-                let Step::Byte(_, _) = normalize_identifier::next(label, d) else {
-                    break 'search Found::At(k);
-                };
-                break 'same;
-            };
-            let Step::Byte(y, f) = normalize_identifier::next(label, d) else {
-                break 'same;
-            };
-            if x != y {
-                break 'same;
+            match (ours.next(), theirs.next()) {
+                (Some(x), Some(y)) => {
+                    if x != y {
+                        break 'same;
+                    }
+                }
+                (None, None) => break 'search Some(k),
+                _ => break 'same,
             }
-            c = e;
-            d = f;
         }
         k += 1;
-    };
-    found
+    }
 }

@@ -2,17 +2,14 @@
 use mathlib.Core.Path.{◌≡◌, refl, sym, ap, ◌∙◌}
 use mathlib.Core.Logic.{◌≢◌}
 use mathlib.Core.List.{List, [], ◌∷◌, ◌++◌, append-nil}
-use Prim.Native.Nat.{ℕ, zero, suc, ◌+◌, ◌-◌, ◌≤◌, ◌<◌}
-use native.Mathlib.Numerals.{add-one}
+use Prim.Native.Nat.{ℕ, suc, ◌+◌, ◌-◌, ◌≤◌, ◌<◌}
 use native.Mathlib.Omega.{arith}
-use lib.ListN.{length, take, drop, get_or, set, length-append, get_or-eq_default}
+use lib.ListN.{length, take, get_or, set, length-append, get_or-eq_default}
 use lib.Seq.{get_or-set_same, get_or-set_other, take-take, take_at}
-use Rattle.machine.specs.State.{State}
-use Rattle.machine.specs.Set.{set_captures}
 use Rattle.machine.specs.Buffers.{open_capture}
 use Rattle.state_buffers.specs.declared.Buffers.{Buffers}
-use Rattle.state_buffers.specs.Stand.{Holds, flat, Saved, Starts, Stand, Opens, Drops}
-use Rattle.state_buffers.proofs.Laws.{holds-place, holds_fits, holds-bytes}
+use Rattle.state_buffers.specs.Stand.{Holds, flat, Saved, Starts, Opens, Drops}
+use Rattle.state_buffers.proofs.Laws.{holds-place, holds_fits}
 
 -- ---- opened
 

@@ -2,25 +2,24 @@
 use Rattle.std.specs.Prelude.{if◌then◌else◌}
 use mathlib.Core.Path.{◌≡◌, refl, sym, ap, ◌∙◌}
 use mathlib.Core.Bool.{Bool, true, false, true≢false, ◌||◌}
-use mathlib.Core.List.{List, [], ◌∷◌, ◌++◌, append-nil, append_assoc}
-use Prim.Native.Nat.{ℕ, zero, suc, ◌+◌, ◌-◌, ◌≤◌, ◌<◌}
+use mathlib.Core.List.{List, [], ◌∷◌, ◌++◌, append_assoc}
+use Prim.Native.Nat.{ℕ, suc, ◌+◌, ◌-◌, ◌≤◌, ◌<◌}
 use native.Mathlib.Decide.{dec_le}
 use native.Mathlib.Omega.{arith}
-use native.Mathlib.Nat.{zero-add}
-use borrow.Author.Tests.{le-leb, lt-leb, le-ltb, lt-ltb, eq-eqb, ne_eqb}
-use lib.Dec.{eqb, leb, ltb}
-use lib.ListN.{length, take, drop, get_or, length-append, length-take}
+use borrow.Author.Tests.{le-leb, lt-leb, le-ltb, lt-ltb, ne_eqb}
+use lib.Dec.{leb, ltb}
+use lib.ListN.{length, take, get_or, length-append}
 use lib.Seq.{get_or-take, get_or-append-add}
-use Rattle.lent.specs.Fill.{fill, past, Filled}
+use Rattle.lent.specs.Fill.{Filled}
 use Rattle.machine.specs.declared.Ending.{Ending}
 use Rattle.machine.specs.declared.Ending.TheVariants.{Lf, Cr, CrLf}
 use Rattle.machine.specs.State.{State}
 use Rattle.machine.specs.Buffers.{push, end_line, ending_if_needed, end_line_if_needed, ending_bytes, is_eol, last_or, newest_of}
 use Rattle.state_buffers.specs.declared.Buffers.{Buffers}
-use Rattle.state_buffers.specs.Stand.{Holds, flat, Saved, Starts, Stand, Keeps, KeepsBy, end_line_by}
+use Rattle.state_buffers.specs.Stand.{Holds, flat, Stand, Keeps, KeepsBy, end_line_by}
 use Rattle.state_buffers.specs.Private.{ends_line, at_line_start, needless}
 use Rattle.machine.proofs.Pushes.{push-none}
-use Rattle.state_buffers.proofs.Laws.{with_page, with_end, holds-place, holds_fits, holds-full, push-nil, push-cons, push-page, push-capture}
+use Rattle.state_buffers.proofs.Laws.{holds-place, holds_fits, holds-full, push-nil, push-cons}
 
 -- ---- the last byte
 
@@ -140,11 +139,8 @@ module _ (b : Buffers) (ending : Ending) (captures out : List ℕ) where
   unfolding end_line
   ended s p = rw p
 
-  pub end-page : (e : List ℕ) (r : ℕ) → b.depth ≡ 0 → Filled out b.page (ending_bytes ending) e r → KeepsBy ending end_line b captures out (with_page r b) captures e
-  end-page e r d f = record { keeps = λ starts s p x. (rw (← ended s p) ((push-page b captures out (ending_bytes ending) e r d f).keeps starts s x)) }
-
-  pub end-capture : (e : List ℕ) (r : ℕ) → (b.depth ≡ 0 → ⊥) → Filled captures b.end (ending_bytes ending) e r → KeepsBy ending end_line b captures out (with_end r b) e out
-  end-capture e r d f = record { keeps = λ starts s p x. (rw (← ended s p) ((push-capture b captures out (ending_bytes ending) e r d f).keeps starts s x)) }
+  pub ended-by : {r : Buffers} {captures' out' : List ℕ} → Keeps (push (ending_bytes ending)) b captures out r captures' out' → KeepsBy ending end_line b captures out r captures' out'
+  ended-by k = record { keeps = λ starts s p x. (rw (← ended s p) (k.keeps starts s x)) }
 
   pub unneeded : (t always : Bool) → t ≡ needless always b captures out → t ≡ true → KeepsBy ending (end_line_by always) b captures out b captures out
   unneeded t true q h = absurd (true≢false (sym h ∙ q))

@@ -1,6 +1,7 @@
 -- How the page and the captures of the machine stand in the lent buffers. Assumes nothing.
 use Rattle.std.specs.Prelude.{◌≡◌, Bool, true, false, List, [], ◌∷◌, ◌++◌, ℕ, suc, ◌≤◌, ◌<◌, length, take, get_or}
-use Rattle.lent.specs.Fill.{past}
+use Rattle.std.specs.Borrow.{MutBor}
+use Rattle.lent.specs.Fill.{past, Filled}
 use Rattle.machine.specs.declared.Ending.{Ending}
 use Rattle.machine.specs.State.{State}
 use Rattle.machine.specs.Set.{set_captures}
@@ -37,6 +38,11 @@ pub record Stand (b : Buffers) (captures starts out : List ℕ) (s : State) : Ty
 -- the code goes from b to r as f does
 pub record Keeps (f : State → State) (b : Buffers) (captures out : List ℕ) (r : Buffers) (captures' out' : List ℕ) : Type 0 where
   pub keeps : (starts : List ℕ) (s : State) → Stand b captures starts out s → Stand r captures' starts out' (f s)
+
+-- what a call appends to a buffer, whichever it is and wherever it ends, is pushed
+abbrev pub PushesBy : (post : MutBor (List ℕ) → (at r : ℕ) → MutBor (List ℕ) → Type 0) → (b : Buffers) → (captures out : List ℕ) → (r : Buffers) → (captures' out' : List ℕ) → Type 0
+PushesBy post b captures out r captures' out' =
+    (t : List ℕ) → ((w w' : MutBor (List ℕ)) (at n : ℕ) → post w at n w' → Filled w.now at t w'.now n) → Keeps (push t) b captures out r captures' out'
 
 -- the same, where the line ending is the machine's
 pub record KeepsBy (ending : Ending) (f : State → State) (b : Buffers) (captures out : List ℕ) (r : Buffers) (captures' out' : List ℕ) : Type 0 where

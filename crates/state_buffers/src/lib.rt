@@ -6,10 +6,11 @@ ghost use Rattle.std.specs.Prelude.{◌≡◌, get_or};
 ghost use Rattle.encode.specs.Encode.{encode_of};
 ghost use Rattle.lent.specs.Fill.{Filled};
 ghost use Rattle.machine.specs.Buffers.{push, end_line, ending_bytes, is_eol, open_capture};
-ghost use Rattle.state_buffers.specs.Stand.{Keeps, KeepsBy, end_line_by, Opens, Drops};
+ghost use Rattle.state_buffers.specs.Stand.{PushesBy, Keeps, KeepsBy, end_line_by, Opens, Drops};
 ghost use Rattle.state_buffers.specs.Private.{ends_line, at_line_start, needless};
 
 use encode_byte::Escaping;
+use lent::Writer;
 use machine::Ending;
 
 // The newest capture is the bytes from `start` up to `end`.
@@ -23,17 +24,30 @@ pub struct Buffers {
     pub depth: usize,
 }
 
+// Appends to the newest capture, or to the page, by one call of `put`: with the buffer and the place to write at, it answers the place behind.
+pub fn push_by<F: FnOnce(&mut [u8], usize) -> usize>(
+    b: Buffers,
+    captures: &mut [u8],
+    out: &mut [u8],
+    put: F,
+) -> Buffers
+    requires { F.IsAlwaysCallable put }
+    ensures { PushesBy (F.post put) b captures.old out.old result captures.new out.new }
+{
+    let mut r = b;
+    if b.depth == 0 {
+        r.page = put(out, b.page);
+        return r;
+    }
+    r.end = put(captures, b.end);
+    r
+}
+
 // Appends to the newest capture, or to the page.
 pub fn push(b: Buffers, captures: &mut [u8], out: &mut [u8], s: &[u8]) -> Buffers
     ensures { Keeps (push s.now) b captures.old out.old result captures.new out.new }
 {
-    let mut r = b;
-    if b.depth == 0 {
-        r.page = lent::put_all(out, b.page, s);
-        return r;
-    }
-    r.end = lent::put_all(captures, b.end, s);
-    r
+    push_by(b, captures, out, |w, at| lent::put_all(w, at, s))
 }
 
 // The same, with what HTML needs encoded.
@@ -46,13 +60,16 @@ pub fn push_encoded(
 ) -> Buffers
     ensures { Keeps (push (encode_of escaping s.now)) b captures.old out.old result captures.new out.new }
 {
-    let mut r = b;
-    if b.depth == 0 {
-        r.page = encode::encode(s, escaping, out, b.page);
-        return r;
-    }
-    r.end = encode::encode(s, escaping, captures, b.end);
-    r
+    push_by(b, captures, out, |w, at| put_encoded(s, escaping, w, at))
+}
+
+// Appends what HTML needs encoded at a place.
+pub fn put_encoded(s: &[u8], escaping: Escaping, out: &mut [u8], at: usize) -> usize
+    ensures { Filled out.old at (encode_of escaping s.now) out.new result }
+{
+    let mut w = Writer { bytes: out, at };
+    encode::encode(s, escaping, &mut w);
+    w.at
 }
 
 // ---- line endings
@@ -71,13 +88,7 @@ pub fn put_ending(ending: Ending, out: &mut [u8], at: usize) -> usize
 fn line_ending(b: Buffers, ending: Ending, captures: &mut [u8], out: &mut [u8]) -> Buffers
     ensures { KeepsBy ending end_line b captures.old out.old result captures.new out.new }
 {
-    let mut r = b;
-    if b.depth == 0 {
-        r.page = put_ending(ending, out, b.page);
-        return r;
-    }
-    r.end = put_ending(ending, captures, b.end);
-    r
+    push_by(b, captures, out, |w, at| put_ending(ending, w, at))
 }
 
 fn is_eol(b: u8) -> bool
@@ -139,10 +150,7 @@ pub fn line_ending_by(
 fn start_at(starts: &[usize], i: usize) -> usize
     ensures { result ≡ get_or starts.now i 0 }
 {
-    if i < starts.len() {
-        return starts[i];
-    }
-    0
+    starts.get(i).copied().unwrap_or(0)
 }
 
 // Opens a capture. The start of the one below it is saved.
@@ -155,10 +163,9 @@ pub fn open(b: Buffers, starts: &mut [usize]) -> Buffers
     }
     starts[d] = b.start;
     Buffers {
-        page: b.page,
-        end: b.end,
         start: b.end,
         depth: d + 1,
+        ..b
     }
 }
 
@@ -171,9 +178,9 @@ pub fn drop(b: Buffers, starts: &[usize]) -> Buffers
     }
     let d = b.depth - 1;
     Buffers {
-        page: b.page,
         end: b.start,
         start: start_at(starts, d),
         depth: d,
+        ..b
     }
 }

@@ -1,26 +1,18 @@
 -- What a later event of the same element asks for: set, counted, asked. Assumes nothing.
-use mathlib.Core.Path.{◌≡◌, refl, sym, ap, ◌∙◌}
-use mathlib.Core.Bool.{Bool, true, false}
-use mathlib.Core.List.{List}
-use mathlib.Core.Option.{Option, none, some}
-use Prim.Native.Nat.{ℕ, zero, suc, ◌<◌}
-use native.Mathlib.Omega.{arith}
-use lib.Dec.{eqb}
+use Rattle.std.proofs.Common.{Some, None, is_some, ◌≡◌, refl, sym, ap, ◌∙◌, Bool, true, false, List, ℕ, zero, suc, ◌<◌, arith, eqb}
+use Rattle.std.specs.Prelude.{Option as CodeOption}
+use Rattle.std.proofs.Math.Option.{Option, none, some}
 use Rattle.machine.specs.State.{State}
 use Rattle.machine.specs.Outcome.{go, need}
 use Rattle.machine.specs.Set.{set_rank, set_seen, set_marker, set_first}
 use Rattle.machine.specs.Test.{has_rank, has_seen_data, is_first_marker, has, test}
 use Rattle.machine.specs.Command.{exec}
-use Rattle.machine.specs.Words.{seen_data, fences, marker, first, forget_rank}
+use Rattle.machine.specs.Words.{seen_data, marker, first, forget_rank}
 use Rattle.machine.proofs.Outcomes.{never}
 use Rattle.character_reference.specs.declared.Marker.{Marker}
 use Rattle.character_reference.specs.declared.Marker.TheVariants as C
 use Rattle.machine_bounded.specs.Within.{within}
 use Rattle.packed.specs.Word.{digit_of}
-use Rattle.state_context.specs.declared.Number.{Number}
-use Rattle.state_context.specs.declared.Number.TheVariants as N
-use Rattle.state_context.specs.declared.Mark.{Mark}
-use Rattle.state_context.specs.declared.Mark.TheVariants as M
 use Rattle.state_context.specs.declared.Context.{Context}
 use Rattle.state_context.specs.Private.{Digit}
 use Rattle.state_context.specs.Rel.{Rel, Any, Sets, Tells, Ranks, MarkIs, ForgetsMarker, rank_of, mark_of, answer_digit, mark_digit}
@@ -106,19 +98,19 @@ mark-back (some C.Decimal) = refl
 mark-back (some C.Hexadecimal) = refl
 
 module _ {c : Context} {d : ℕ} (e : d ≡ digit_of 7 c.word) where
-  mark-at : {x : Mark} → mark_of x ≡ mark_at d → MarkIs c x
+  mark-at : {x : CodeOption Marker} → mark_of x ≡ mark_at d → MarkIs c x
   mark-at q = record { mark-is = λ w o b s r. q ∙ ap mark_at (e ∙ r.waits.marker) ∙ mark-back s.waiting.marker }
 
-  pub no-mark : d ≡ 0 → MarkIs c M.Unset
+  pub no-mark : d ≡ 0 → MarkIs c None
   no-mark z = mark-at (rw z)
 
-  pub named : d ≡ 1 → MarkIs c (M.Is C.Named)
+  pub named : d ≡ 1 → MarkIs c (Some C.Named)
   named z = mark-at (rw z)
 
-  pub decimal : d ≡ 2 → MarkIs c (M.Is C.Decimal)
+  pub decimal : d ≡ 2 → MarkIs c (Some C.Decimal)
   decimal z = mark-at (rw z)
 
-  pub hexadecimal : (d ≡ 0 → ⊥) → (d ≡ 1 → ⊥) → (d ≡ 2 → ⊥) → MarkIs c (M.Is C.Hexadecimal)
+  pub hexadecimal : (d ≡ 0 → ⊥) → (d ≡ 1 → ⊥) → (d ≡ 2 → ⊥) → MarkIs c (Some C.Hexadecimal)
   hexadecimal x y z = mark-at (on d x y z)
     where
       on : (n : ℕ) → (n ≡ 0 → ⊥) → (n ≡ 1 → ⊥) → (n ≡ 2 → ⊥) → some C.Hexadecimal ≡ mark_at n
@@ -129,29 +121,22 @@ module _ {c : Context} {d : ℕ} (e : d ≡ digit_of 7 c.word) where
 
 -- ---- the rank
 
-pub ranked : {c : Context} (x : Number) → Ranks x c (record { buffers = c.buffers; word = c.word; rank = x; tight = c.tight; table = c.table })
+pub ranked : {c : Context} (x : CodeOption ℕ) → Ranks x c (record { buffers = c.buffers; word = c.word; rank = x; tight = c.tight; table = c.table })
 ranked x = record {
   ranks = λ w o b s r.
       let v = r.waits in
       record { stand = stands r.stand refl refl; flags = r.flags; waits = record { rank = refl; seen = v.seen; fences = v.fences; marker = v.marker; first = v.first }; tight = r.tight; table = r.table; fixed = r.fixed };
 }
 
-pub forgets : {c r : Context} → Ranks N.Unset c r → Sets forget_rank c r
+pub forgets : {c r : Context} → Ranks None c r → Sets forget_rank c r
 unfolding exec within
 forgets k = setting (set_rank none) (λ t s. refl) (λ w o b s i r. k.ranks w o b s r)
 
-abbrev is_set : Number → Bool
-is_set N.Unset = false
-is_set (N.Is n) = true
-
-rank-of : (x : Number) (f : Option ℕ) (y : Bool) → rank_of x ≡ f → go (has (λ n. true) f) ≡ go y → y ≡ is_set x
-rank-of N.Unset f y h p = let z : go false ≡ go y = rw (← h) at p in let e : false ≡ y = cc in sym e
-rank-of (N.Is n) f y h p = let z : go true ≡ go y = rw (← h) at p in let e : true ≡ y = cc in sym e
+rank-of : (x : CodeOption ℕ) (f : Option ℕ) (y : Bool) → rank_of x ≡ f → go (has (λ n. true) f) ≡ go y → y ≡ is_some x
+rank-of None f y h p = let z : go false ≡ go y = rw (← h) at p in let e : false ≡ y = cc in sym e
+rank-of (Some n) f y h p = let z : go true ≡ go y = rw (← h) at p in let e : true ≡ y = cc in sym e
 
 module _ {c : Context} where
-  pub tells-rank : (x : Number) → c.rank ≡ x → Tells Any has_rank c (is_set x)
+  pub tells-rank : Tells Any has_rank c (is_some c.rank)
   unfolding test
-  tells-rank x q = record { tells = λ t w o b s y v r p. rank-of x s.waiting.rank y (rw q at r.waits.rank) p }
-
-  pub rank-known : (n : ℕ) → c.rank ≡ N.Is n → Tells Any has_rank c true
-  rank-known n q = tells-rank (N.Is n) q
+  tells-rank = record { tells = λ t w o b s y v r p. rank-of c.rank s.waiting.rank y r.waits.rank p }

@@ -5,13 +5,12 @@ use mathlib.Core.List.{List, [], ◌∷◌}
 use mathlib.Core.Option.{Option, none, some}
 use Prim.Native.Nat.{ℕ}
 use Prim.Native.String.{String}
-use native.Mathlib.Omega.{arith}
 use borrow.Author.Tests.{not-true, not-false}
 use Rattle.lent.specs.Bytes.{bytes}
 use Rattle.event.specs.declared.Event.{Event}
 use Rattle.event.specs.Event.{named}
 use Rattle.machine.specs.State.{State}
-use Rattle.machine.specs.Outcome.{Outcome, stop, go, ◌>>=◌, need}
+use Rattle.machine.specs.Outcome.{go, ◌>>=◌, need}
 use Rattle.machine.specs.Buffers.{push}
 use Rattle.machine.specs.Set.{Flag, alt, flag_of}
 use Rattle.machine.specs.Turn.{Turn, just_before, is_after_definition}

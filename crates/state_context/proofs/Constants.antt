@@ -1,10 +1,6 @@
 -- What a build never changes: put into the word once, and read. Assumes nothing.
-use mathlib.Core.Path.{◌≡◌, refl, sym, ap, ◌∙◌}
-use Prim.Native.Nat.{ℕ, zero, suc, ◌<◌}
-use native.Mathlib.Omega.{arith}
-use mathlib.Core.Bool.{Bool, true, false, not}
-use mathlib.Core.List.{List}
-use lib.Dec.{eqb}
+use Rattle.std.proofs.Common.{◌≡◌, refl, sym, ap, ◌∙◌, ℕ, zero, suc, arith, Bool, not, List, eqb}
+use Rattle.std.proofs.Math.Dec.{eqb-suc-zero}
 use Rattle.encode_byte.specs.declared.Escaping.{Escaping}
 use Rattle.encode_byte.specs.Byte.{escaping_of}
 use Rattle.character_reference.specs.declared.Names.{Names}
@@ -59,15 +55,12 @@ module _ (w : ℕ) {d : ℕ} (e : d ≡ digit_of 10 w) where
       on (suc n) z = refl
 
 module _ (w : ℕ) {d : ℕ} (e : d ≡ digit_of 11 w) where
-  pub is_plain : d ≡ 0 → false ≡ apostrophes_in w
-  is_plain z = rw (← e, z)
-
-  pub is-quoted : (d ≡ 0 → ⊥) → true ≡ apostrophes_in w
-  is-quoted z = on d z ∙ ap apostrophes_at e
+  pub is_quoted : not (eqb d 0) ≡ apostrophes_in w
+  is_quoted = on d ∙ ap apostrophes_at e
     where
-      on : (n : ℕ) → (n ≡ 0 → ⊥) → true ≡ apostrophes_at n
-      on zero z = absurd (z refl)
-      on (suc n) z = refl
+      on : (n : ℕ) → not (eqb n 0) ≡ apostrophes_at n
+      on zero = refl
+      on (suc n) = rw (eqb-suc-zero n)
 
 pub all_read : (w : ℕ) {e : Ending} {n : Names} {a : Bool} → e ≡ ending_in w → n ≡ names_in w → a ≡ apostrophes_in w → ◌≡◌ {A = Fixed} (record { ending = e; names = n; apostrophes = a }) (fixed_in w)
 all_read w x y z = rw (x, y, z)

@@ -2,14 +2,13 @@
 use mathlib.Core.Path.{◌≡◌, refl, sym, ◌∙◌}
 use mathlib.Core.Bool.{Bool, true, false, not}
 use mathlib.Core.List.{List, [], ◌∷◌}
-use Prim.Native.Nat.{ℕ, suc, ◌≤◌}
+use Prim.Native.Nat.{suc, ◌≤◌}
 use native.Mathlib.Omega.{arith}
 use lib.Dec.{eqb}
 use lib.ListN.{length}
 use borrow.Author.Tests.{ne_eqb}
 use Rattle.packed.specs.declared.Tight.{Tight}
 use Rattle.packed.specs.Tight.{Tightened, older, newest_of, More, Fewer, Newest}
-use Rattle.machine.specs.State.{State}
 use Rattle.machine.specs.Outcome.{go}
 use Rattle.machine.specs.Set.{set_tight}
 use Rattle.machine.specs.Test.{is_tight, is_in_container, tight_of, is_empty, test}

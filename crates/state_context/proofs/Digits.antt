@@ -1,10 +1,7 @@
 -- One digit of the word set: the flags, and what waits. Assumes nothing.
-use mathlib.Core.Path.{◌≡◌, refl, sym, ap, ◌∙◌}
-use mathlib.Core.Bool.{Bool, true, false, not}
-use mathlib.Core.List.{List}
-use Prim.Native.Nat.{ℕ, ◌≤◌, ◌<◌}
-use native.Mathlib.Omega.{arith}
-use lib.Dec.{eqb}
+use Rattle.std.proofs.Common.{◌≡◌, refl, sym, ap, ◌∙◌, Bool, true, false, not, List, ℕ, ◌≤◌, ◌<◌, arith, eqb}
+use Rattle.std.specs.Prelude.{Option as CodeOption}
+use mir.Val.{bool_byte}
 use borrow.Author.Tests.{eqb-false}
 use Rattle.machine.specs.State as State
 use Rattle.machine.specs.State.{State}
@@ -13,7 +10,6 @@ use Rattle.machine.specs.Test.{test}
 use Rattle.machine.specs.Command.{exec}
 use Rattle.machine_bounded.specs.Within.{within}
 use Rattle.packed.specs.Word.{digit_of, Placed}
-use Rattle.state_context.specs.declared.Number.{Number}
 use Rattle.state_context.specs.declared.Context.{Context}
 use Rattle.state_context.specs.Rel.{Rel, Waits, place_of, is_on, flags_of, fixed_in}
 use Rattle.state_context.specs.Private.{with_word, Digit, SetsFlag, TellsFlag}
@@ -29,7 +25,7 @@ still-fixed h p = rw (p.others 9 (λ e. omega arith), p.others 10 (λ e. omega a
 -- ---- flags
 
 -- what waits stands elsewhere
-still-waits : {k x w r : ℕ} {n : Number} {a : State.Waiting} → k < 5 → Placed k x w r → Waits w n a → Waits r n a
+still-waits : {k x w r : ℕ} {n : CodeOption ℕ} {a : State.Waiting} → k < 5 → Placed k x w r → Waits w n a → Waits r n a
 still-waits h p v =
     record {
       rank = v.rank;
@@ -63,11 +59,9 @@ sets-flag {d = d} x e k = record {
       record { stand = stands r.stand refl refl; flags = one-flag f p ∙ ap (with_flag f (not (eqb d 0))) r.flags; waits = still-waits (low-place f) p r.waits; tight = r.tight; table = r.table; fixed = still-fixed (omega (arith, low-place f)) p ∙ r.fixed }));
 }
 
-pub flag-on : {k : ℕ} {c r : Context} {x : Bool} → x ≡ true → Digit k 1 c r → SetsFlag k x c r
-flag-on {x = x} h k = sets-flag x (sym h) k
-
-pub flag_off : {k : ℕ} {c r : Context} {x : Bool} → x ≡ false → Digit k 0 c r → SetsFlag k x c r
-flag_off {x = x} h k = sets-flag x (sym h) k
+pub flag-set : {k d : ℕ} {c r : Context} (x : Bool) → d ≡ bool_byte x → Digit k d c r → SetsFlag k x c r
+flag-set true e k = sets-flag true (rw e) k
+flag-set false e k = sets-flag false (rw e) k
 
 flag_is : (f : Flag) (w : ℕ) → flag_of f (flags_of w) ≡ is_on w f
 flag_is slurp w = refl

@@ -12,7 +12,7 @@ use Rattle.machine.specs.Outcome.{stop, go, ◌>>=◌, need}
 use Rattle.machine.specs.Set.{set_fences}
 use Rattle.machine.specs.Test.{is_first_fence, is_fenced_once, is_fence_missing, has, test}
 use Rattle.machine.specs.Command.{exec}
-use Rattle.machine.specs.Words.{fences, count_fence, marker, first}
+use Rattle.machine.specs.Words.{fences, count_fence}
 use Rattle.machine.proofs.Outcomes.{never}
 use Rattle.machine_bounded.specs.Within.{within}
 use Rattle.machine_bounded.proofs.Bounds.{done}

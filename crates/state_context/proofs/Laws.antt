@@ -1,30 +1,23 @@
 -- What writing does to the relation, and how commands go together. Assumes nothing.
-use Rattle.std.specs.Prelude.{if◌then◌else◌}
 use mathlib.Core.Path.{◌≡◌, refl, sym, ap, ◌∙◌}
-use mathlib.Core.Bool.{Bool, true, false, true≢false}
-use mathlib.Core.List.{List, [], ◌∷◌, ◌++◌}
-use mathlib.Core.Option.{Option, none, some}
-use Prim.Native.Nat.{ℕ, suc}
-use Prim.Native.String.{String}
-use native.Mathlib.Omega.{arith}
+use mathlib.Core.Bool.{true}
+use mathlib.Core.List.{List, [], ◌∷◌}
+use Prim.Native.Nat.{ℕ}
 use lib.ListN.{length}
-use Rattle.lent.specs.Bytes.{bytes}
 use Rattle.machine.specs.declared.Ending.{Ending}
 use Rattle.machine.specs.declared.Fixed.{Fixed}
 use Rattle.machine.specs.State.{State}
-use Rattle.machine.specs.Outcome.{Outcome, stop, go, ◌>>=◌}
+use Rattle.machine.specs.Outcome.{go}
 use Rattle.machine.specs.Buffers.{push, push_to, ending_bytes, end_line, ending_if_needed, end_line_if_needed}
-use Rattle.machine.specs.Turn.{Turn}
-use Rattle.machine.specs.Test.{Test, test}
-use Rattle.machine.specs.Command.{Command, nothing, ◌▸◌, whether, exec}
-use Rattle.machine.specs.Words.{put, line_ending, line_ending_if_needed}
+use Rattle.machine.specs.Command.{exec}
+use Rattle.machine.specs.Words.{line_ending, line_ending_if_needed}
 use Rattle.state_buffers.specs.declared.Buffers.{Buffers}
 use Rattle.state_buffers.specs.Stand as Stand
 use Rattle.state_buffers.specs.Stand.{Stand, KeepsBy}
 use Rattle.machine_bounded.specs.Within.{one, within}
 use Rattle.machine_bounded.proofs.Bounds.{done}
 use Rattle.state_context.specs.declared.Context.{Context}
-use Rattle.state_context.specs.Rel.{Rel, Any, Keeps, Pushes, Tells, ending_in}
+use Rattle.state_context.specs.Rel.{Rel, Any, Keeps, Pushes, ending_in}
 
 -- ---- the buffers alone
 

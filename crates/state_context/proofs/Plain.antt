@@ -3,9 +3,8 @@ use mathlib.Core.Path.{◌≡◌}
 use mathlib.Core.Bool.{true}
 use mathlib.Core.List.{List}
 use Prim.Native.Nat.{ℕ}
-use native.Mathlib.Omega.{arith}
 use Rattle.machine.specs.State.{State}
-use Rattle.machine.specs.Outcome.{stop, go}
+use Rattle.machine.specs.Outcome.{go}
 use Rattle.machine.specs.Turn.{Turn}
 use Rattle.machine.specs.Command.{Command}
 use Rattle.state_buffers.specs.declared.Buffers.{Buffers}

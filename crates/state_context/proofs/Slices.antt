@@ -1,13 +1,5 @@
 -- Slices of the text, and captures opened and taken off. Assumes nothing.
-use Rattle.std.specs.Prelude.{if◌then◌else◌}
-use mathlib.Core.Path.{◌≡◌, refl, sym, ap, ◌∙◌}
-use mathlib.Core.Bool.{Bool, true, false, ◌&&◌}
-use mathlib.Core.List.{List, [], ◌∷◌, ◌++◌}
-use Prim.Native.Nat.{ℕ, suc, ◌-◌, ◌≤◌, ◌<◌}
-use native.Mathlib.Omega.{arith}
-use borrow.Author.Tests.{leb-true}
-use lib.Dec.{leb}
-use lib.ListN.{length, take, drop}
+use Rattle.std.proofs.Common.{if◌then◌else◌, ◌⊎◌, inl, inr, ◌≡◌, refl, sym, ap, ◌∙◌, Bool, true, false, ◌&&◌, List, [], ◌∷◌, ◌++◌, ℕ, suc, ◌-◌, ◌≤◌, ◌<◌, arith, leb-true, leb, length, take, drop}
 use Prim.Native.String.{String}
 use Rattle.lent.specs.Bytes.{bytes}
 use Rattle.lent.proofs.Laws.{and_left, and_right}
@@ -18,7 +10,7 @@ use Rattle.event.specs.declared.Event.{Event}
 use Rattle.machine.specs.State.{State}
 use Rattle.machine.specs.Outcome.{stop, go, ◌>>=◌}
 use Rattle.machine.specs.Set.{set_captures}
-use Rattle.machine.specs.Buffers.{push, escaping_now, push_encoded, open_capture, take_capture}
+use Rattle.machine.specs.Buffers.{push, escaping_now, open_capture, take_capture}
 use Rattle.machine.specs.Turn.{Turn, span_of, slice_of, as_str, str_of, own_str}
 use Rattle.machine.specs.Words as Words
 use Rattle.machine.specs.Command.{Command, ◌▸◌, exec}
@@ -30,7 +22,7 @@ use Rattle.state_buffers.specs.Stand.{Stand}
 use Rattle.machine_bounded.specs.Within.{one, within}
 use Rattle.machine_bounded.proofs.Bounds.{done, fits}
 use Rattle.state_context.specs.declared.Context.{Context}
-use Rattle.state_context.specs.Rel.{Rel, Any, Sees, Keeps, Takes, Opens, Begins, Ends, escaping_in}
+use Rattle.state_context.specs.Rel.{Rel, Sees, Keeps, Takes, Begins, Ends, escaping_in}
 use Rattle.state_context.proofs.Laws.{with_buffers, rel-buffers, pushed}
 use Rattle.state_context.proofs.Constants.{escaping-told}
 
@@ -71,6 +63,10 @@ is_slice : (t : Turn) (s : State) → within slice t s ≡ one true (own_str t >
 unfolding exec within
 is_slice t s = ap (one true) (joins (own_str t) (encoded t s) (λ b. go (push b s)))
 
+-- where the text has no such slice
+pub no-slice : {text : List ℕ} {e : Event} {b : List ℕ} → (e.to.0 < e.from.0) ⊎ (length text < e.to.0) → Sliced text e b → ⊥
+no-slice h k = elim h [ inl x ↦ omega (arith, k.ordered) | inr x ↦ omega (arith, k.inside) ]
+
 module _ (text : List ℕ) (e : Event) where
   pub own-slice : (t : Turn) (b : List ℕ) → Sees text e t → own_str t ≡ go b → Sliced text e b
   own-slice t b v p = sliced text e b (rw (v.text-is, v.event-is) at p)
@@ -83,14 +79,8 @@ module _ (text : List ℕ) (e : Event) where
         let g = first_goes (own_str t) (λ b. go (push (f t s b) s)) u q in
         (g.0, own-slice t g.0 v g.1, cc-go g.2)
 
-    nowhere : {c : Context} {w o : List ℕ} → ((b : List ℕ) → Sliced text e b → ⊥) → Keeps (Sees text e) d c w o c w o
-    nowhere z = record { keeps = λ t b s u v x p. (let g = owned t s u v p in absurd (z g.0 g.1)) }
-
-    pub owned-back : {c : Context} {w o : List ℕ} → e.to.0 < e.from.0 → Keeps (Sees text e) d c w o c w o
-    owned-back h = nowhere (λ b k. omega (arith, k.ordered))
-
-    pub owned-out : {c : Context} {w o : List ℕ} → length text < e.to.0 → Keeps (Sees text e) d c w o c w o
-    owned-out h = nowhere (λ b k. omega (arith, k.inside))
+    pub not-owned : {c : Context} {w o : List ℕ} → (e.to.0 < e.from.0) ⊎ (length text < e.to.0) → Keeps (Sees text e) d c w o c w o
+    not-owned h = record { keeps = λ t b s u v x p. (let g = owned t s u v p in absurd (no-slice h g.1)) }
 
     pub owned-pushes : {c : Context} {w o : List ℕ} {y : Escaping} → y ≡ escaping_in c.word → (g : List ℕ) → ((t : Turn) (s : State) → Sees text e t → escaping_now s ≡ y → g ≡ f t s (take (e.to.0 - e.from.0) (drop e.from.0 text))) → {x : Buffers} {w' o' : List ℕ} → Stand.Keeps (push g) c.buffers w o x w' o'
         → Keeps (Sees text e) d c w o (with_buffers x c) w' o'
@@ -103,15 +93,12 @@ module _ (text : List ℕ) (e : Event) where
     }
 
   module _ {c : Context} {w o : List ℕ} where
-    pub slice_back : e.to.0 < e.from.0 → Keeps (Sees text e) slice c w o c w o
-    slice_back h = owned-back slice encoded is_slice h
+    pub not-sliced : (e.to.0 < e.from.0) ⊎ (length text < e.to.0) → Keeps (Sees text e) slice c w o c w o
+    not-sliced h = not-owned slice encoded is_slice h
 
-    pub slice_out : length text < e.to.0 → Keeps (Sees text e) slice c w o c w o
-    slice_out h = owned-out slice encoded is_slice h
-
-    pub slices : {y : Escaping} {x : Buffers} {w' o' : List ℕ} → y ≡ escaping_in c.word → Stand.Keeps (push (encode_of y (take (e.to.0 - e.from.0) (drop e.from.0 text)))) c.buffers w o x w' o'
+    pub slices : {z : List ℕ} {y : Escaping} {x : Buffers} {w' o' : List ℕ} → z ≡ take (e.to.0 - e.from.0) (drop e.from.0 text) → y ≡ escaping_in c.word → Stand.Keeps (push (encode_of y z)) c.buffers w o x w' o'
         → Keeps (Sees text e) slice c w o (with_buffers x c) w' o'
-    slices {y} a k = owned-pushes slice encoded is_slice a (encode_of y (take (e.to.0 - e.from.0) (drop e.from.0 text))) (λ t s v i. rw i) k
+    slices {z} {y} q a k = owned-pushes slice encoded is_slice a (encode_of y z) (λ t s v i. rw (i, q)) k
 
 -- ---- captures
 

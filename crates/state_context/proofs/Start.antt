@@ -1,14 +1,9 @@
 -- The state before the first event stands for the machine's: the relation can be met. Assumes nothing.
-use mathlib.Core.Path.{◌≡◌, refl}
-use mathlib.Core.Bool.{false}
-use mathlib.Core.List.{List, []}
-use Prim.Native.Nat.{ℕ, ◌<◌}
-use native.Mathlib.Omega.{arith}
+use Rattle.std.proofs.Common.{None, ◌≡◌, refl, false, List, [], ℕ, ◌<◌, arith}
 use Rattle.machine.specs.declared.Fixed.{Fixed}
 use Rattle.machine.specs.State.{start}
 use Rattle.packed.specs.Word.{digit_of}
 use Rattle.state_buffers.specs.Stand.{Holds}
-use Rattle.state_context.specs.declared.Number.TheVariants as N
 use Rattle.state_context.specs.declared.Context.{Context}
 use Rattle.state_context.specs.Rel.{Begun}
 use Rattle.state_context.specs.Private.{Starts}
@@ -21,7 +16,7 @@ before word =
     record {
       buffers = record { page = 0; end = 0; start = 0; depth = 0 };
       word = word;
-      rank = N.Unset;
+      rank = None;
       tight = record { bits = 0; count = 0 };
       table = record { inside = false; extra = 0; column = 0 };
     }

@@ -1,5 +1,6 @@
 -- How the machine's state stands in the code's, and what a function does that keeps it so. Assumes nothing.
 use Rattle.std.specs.Prelude.{◌≡◌, Bool, true, false, not, List, [], ◌∷◌, ℕ, zero, suc, min, ◌≤◌, eqb, length, if◌then◌else◌}
+use Rattle.std.specs.Prelude.{Option as CodeOption, Some, None}
 use Rattle.std.proofs.Math.Option.{Option, none, some}
 use Prim.Native.String.{String}
 use Rattle.lent.specs.Bytes.{bytes}
@@ -18,7 +19,7 @@ use Rattle.machine.specs.State.{State, start}
 use Rattle.machine.specs.declared.Ending.{Ending}
 use Rattle.machine.specs.declared.Ending.TheVariants.{Lf, Cr, CrLf}
 use Rattle.machine.specs.declared.Fixed.{Fixed}
-use Rattle.machine.specs.Outcome.{Outcome, stop, go}
+use Rattle.machine.specs.Outcome.{go}
 use Rattle.machine.specs.Buffers.{push}
 use Rattle.machine.specs.Turn.{Turn, just_before, is_after_definition}
 use Rattle.machine.specs.Test.{Test, test}
@@ -28,29 +29,23 @@ use Rattle.machine_bounded.specs.Within.{within}
 use Rattle.packed.specs.Tight.{Tightened}
 use Rattle.packed.specs.Word.{digit_of}
 use Rattle.state_buffers.specs.Stand.{Stand}
-use Rattle.state_context.specs.declared.Number.{Number}
-use Rattle.state_context.specs.declared.Number.TheVariants as N
-use Rattle.state_context.specs.declared.Answer.{Answer}
-use Rattle.state_context.specs.declared.Answer.TheVariants as A
-use Rattle.state_context.specs.declared.Mark.{Mark}
-use Rattle.state_context.specs.declared.Mark.TheVariants as M
 use Rattle.state_context.specs.declared.Table.{Table}
 use Rattle.state_context.specs.declared.Context.{Context}
 
 -- ---- the parts
 
-abbrev pub rank_of : Number → Option ℕ
-rank_of N.Unset = none
-rank_of (N.Is n) = some n
+-- the machine's option of the code's
+abbrev pub rank_of : CodeOption ℕ → Option ℕ
+rank_of None = none
+rank_of (Some n) = some n
 
-abbrev pub answer_of : Answer → Option Bool
-answer_of A.Unset = none
-answer_of A.Yes = some true
-answer_of A.No = some false
+abbrev pub answer_of : CodeOption Bool → Option Bool
+answer_of None = none
+answer_of (Some x) = some x
 
-abbrev pub mark_of : Mark → Option Marker
-mark_of M.Unset = none
-mark_of (M.Is m) = some m
+abbrev pub mark_of : CodeOption Marker → Option Marker
+mark_of None = none
+mark_of (Some m) = some m
 
 -- ---- the word: each flag, each answer that waits and each choice that a build never changes is a digit of it
 
@@ -86,7 +81,7 @@ mark_digit (some Decimal) = 2
 mark_digit (some Hexadecimal) = 3
 
 -- behind the flags, what waits; a setext heading's text stands among the held bytes
-pub record Waits (word : ℕ) (number : Number) (a : State.Waiting) : Type 0 where
+pub record Waits (word : ℕ) (number : CodeOption ℕ) (a : State.Waiting) : Type 0 where
   pub rank : rank_of number ≡ a.rank
   pub seen : digit_of 5 word ≡ answer_digit a.seen
   pub fences : digit_of 6 word ≡ fences_digit a.fences
@@ -220,11 +215,11 @@ pub record Tells (View : Turn → Type 0) (q : Test) (c : Context) (x : Bool) : 
   pub tells : (t : Turn) (captures out starts : List ℕ) (s : State) (y : Bool) → View t → Rel c captures out starts s → test q t s ≡ go y → y ≡ x
 
 -- another rank waits, or none
-pub record Ranks (x : Number) (c r : Context) : Type 0 where
+pub record Ranks (x : CodeOption ℕ) (c r : Context) : Type 0 where
   pub ranks : (captures out starts : List ℕ) (s : State) → Rel c captures out starts s → Rel r captures out starts (set_rank (rank_of x) s)
 
 -- the marker that waits
-pub record MarkIs (c : Context) (x : Mark) : Type 0 where
+pub record MarkIs (c : Context) (x : CodeOption Marker) : Type 0 where
   pub mark-is : (captures out starts : List ℕ) (s : State) → Rel c captures out starts s → mark_of x ≡ s.waiting.marker
 
 -- none waits any more

@@ -16,29 +16,8 @@ use machine::{Ending, Fixed};
 use packed::Tight;
 use state_buffers::Buffers;
 
-// A number that may not be known yet.
-#[derive(Clone, Copy)]
-pub enum Number {
-    Unset,
-    Is(usize),
-}
-
-// An answer that may not be known yet.
-#[derive(Clone, Copy)]
-pub enum Answer {
-    Unset,
-    Yes,
-    No,
-}
-
-// The marker of a character reference, where one was seen.
-#[derive(Clone, Copy)]
-pub enum Mark {
-    Unset,
-    Is(Marker),
-}
-
-// The table that is open: its enter's extra field, and the column of the next cell.
+// The table that is open: its enter's extra field, and the column of the next cell. The flag stays beside the field, which is read
+// with no branch whether a table is open or not.
 #[derive(Clone, Copy)]
 pub struct Table {
     pub inside: bool,
@@ -52,7 +31,7 @@ pub struct Context {
     // the flags, the answers that wait, and what a build never changes: a digit each
     pub word: u64,
     // of an atx heading
-    pub rank: Number,
+    pub rank: Option<usize>,
     // which containers are
     pub tight: Tight,
     pub table: Table,
@@ -109,7 +88,7 @@ fn names_digit(x: Names) -> u64
 fn apostrophes_digit(x: bool) -> u64
     ensures { (result < 4) × (apostrophes_at result ≡ x) }
 {
-    if x { 1 } else { 0 }
+    u64::from(x)
 }
 
 fn first_word(fixed: Fixed) -> u64
@@ -146,7 +125,7 @@ pub fn new(fixed: Fixed) -> Context
     Context {
         buffers,
         word,
-        rank: Number::Unset,
+        rank: None,
         tight,
         table,
     }
@@ -179,10 +158,7 @@ pub fn names_in(c: Context) -> Names
 pub fn apostrophes_in(c: Context) -> bool
     ensures { result ≡ apostrophes_in c.word }
 {
-    if packed::digit(c.word, APOSTROPHES) == 0 {
-        return false;
-    }
-    true
+    packed::digit(c.word, APOSTROPHES) != 0
 }
 
 pub fn fixed_in(c: Context) -> Fixed
@@ -250,17 +226,12 @@ pub fn push_tag(c: Context, captures: &mut [u8], out: &mut [u8], s: &[u8]) -> Co
 pub fn push_slice(c: Context, text: &[u8], e: Event, captures: &mut [u8], out: &mut [u8]) -> Context
     ensures { Keeps (Sees text.now e) slice c captures.old out.old result captures.new out.new }
 {
-    let from = e.from.0;
-    let to = e.to.0;
-    if to < from {
+    let Some(s) = text.get(e.from.0..e.to.0) else {
         return c;
-    }
-    if text.len() < to {
-        return c;
-    }
+    };
     let mut r = c;
     let escaping = escaping_in(c);
-    r.buffers = state_buffers::push_encoded(c.buffers, captures, out, &text[from..to], escaping);
+    r.buffers = state_buffers::push_encoded(c.buffers, captures, out, s, escaping);
     r
 }
 
@@ -297,10 +268,7 @@ fn with_flag(c: Context, k: usize, x: bool) -> Context
     requires { k < 32 }
     ensures { SetsFlag k x c result }
 {
-    if x {
-        return with_digit(c, k, 1);
-    }
-    with_digit(c, k, 0)
+    with_digit(c, k, u64::from(x))
 }
 
 fn has_flag(c: Context, k: usize) -> bool
@@ -378,7 +346,7 @@ pub fn open_container(c: Context, x: bool) -> Context
     ensures { Sets (open_container x) c result }
 {
     let mut r = c;
-    r.tight = packed::more(c.tight, x);
+    r.tight = c.tight.more(x);
     r
 }
 
@@ -387,14 +355,14 @@ pub fn close_container(c: Context) -> Context
     ensures { Sets close_container c result }
 {
     let mut r = c;
-    r.tight = packed::fewer(c.tight);
+    r.tight = c.tight.fewer();
     r
 }
 
 pub fn is_tight(c: Context) -> bool
     ensures { Tells Any is_tight c result }
 {
-    packed::newest(c.tight)
+    c.tight.newest()
 }
 
 pub fn is_in_container(c: Context) -> bool
@@ -405,51 +373,39 @@ pub fn is_in_container(c: Context) -> bool
 
 // ---- the rank of a heading
 
-pub fn with_rank(c: Context, x: Number) -> Context
+pub fn with_rank(c: Context, x: Option<usize>) -> Context
     ensures { Ranks x c result }
 {
-    let buffers = c.buffers;
-    let word = c.word;
-    let tight = c.tight;
-    let table = c.table;
-    Context {
-        buffers,
-        word,
-        rank: x,
-        tight,
-        table,
-    }
+    let mut r = c;
+    r.rank = x;
+    r
 }
 
 pub fn forget_rank(c: Context) -> Context
     ensures { Sets forget_rank c result }
 {
-    with_rank(c, Number::Unset)
+    with_rank(c, None)
 }
 
 pub fn has_rank(c: Context) -> bool
     ensures { Tells Any has_rank c result }
 {
-    let x = c.rank;
-    match x {
-        Number::Unset => false,
-        Number::Is(_) => true,
-    }
+    c.rank.is_some()
 }
 
 // ---- answers: a digit is 0 for none, 1 for yes, 2 for no
 
-fn answer_digit(x: Answer) -> u64
+fn answer_digit(x: Option<bool>) -> u64
     ensures { result ≡ answer_digit (answer_of x) }
 {
     match x {
-        Answer::Unset => 0,
-        Answer::Yes => 1,
-        Answer::No => 2,
+        None => 0,
+        Some(true) => 1,
+        Some(false) => 2,
     }
 }
 
-pub fn set_seen(c: Context, x: Answer) -> Context
+pub fn set_seen(c: Context, x: Option<bool>) -> Context
     ensures { Sets (seen_data (answer_of x)) c result }
 {
     let d = answer_digit(x);
@@ -503,20 +459,20 @@ pub fn forget_marker(c: Context) -> Context
     with_digit(c, MARKER, 0)
 }
 
-pub fn waiting_marker(c: Context) -> Mark
+pub fn waiting_marker(c: Context) -> Option<Marker>
     ensures { MarkIs c result }
 {
     let d = packed::digit(c.word, MARKER);
     if d == 0 {
-        return Mark::Unset;
+        return None;
     }
     if d == 1 {
-        return Mark::Is(Marker::Named);
+        return Some(Marker::Named);
     }
     if d == 2 {
-        return Mark::Is(Marker::Decimal);
+        return Some(Marker::Decimal);
     }
-    Mark::Is(Marker::Hexadecimal)
+    Some(Marker::Hexadecimal)
 }
 
 // ---- fences: 0 outside of a fenced block, then one more than it has so far

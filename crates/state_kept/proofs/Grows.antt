@@ -1,11 +1,6 @@
 -- The kept bytes when some are appended: the end, the total, what stood. Assumes nothing.
-use mathlib.Core.Path.{◌≡◌, refl, ap, ◌∙◌}
-use mathlib.Core.List.{List, [], ◌∷◌, ◌++◌}
-use mathlib.Core.Option.{Option, none, some}
-use mathlib.Core.Logic.{inl}
-use Prim.Native.Nat.{ℕ, zero, suc, ◌+◌, ◌≤◌, min}
-use native.Mathlib.Omega.{arith}
-use lib.ListN.{length, take, length-take, length-drop}
+use Rattle.std.proofs.Common.{◌≡◌, refl, ap, ◌∙◌, List, [], ◌∷◌, ◌++◌, inl, ℕ, zero, suc, ◌+◌, ◌≤◌, min, arith, length, take, length-take, length-drop}
+use Rattle.std.proofs.Math.Option.{Option, none, some}
 use Rattle.lent.specs.Fill.{Filled}
 use Rattle.lent.proofs.Laws.{front-before}
 use Rattle.lent.proofs.Laws as Lent

@@ -1,9 +1,5 @@
 -- A footnote is kept. Assumes nothing.
-use mathlib.Core.Path.{◌≡◌, refl, sym, ap, ◌∙◌}
-use mathlib.Core.List.{List, [], ◌∷◌}
-use Prim.Native.Nat.{ℕ, ◌+◌, ◌-◌, ◌≤◌, ◌<◌, min}
-use native.Mathlib.Omega.{arith}
-use lib.ListN.{length, take, drop, get_or}
+use Rattle.std.proofs.Common.{◌≡◌, refl, sym, ap, ◌∙◌, List, [], ◌∷◌, ℕ, ◌+◌, ◌-◌, ◌≤◌, ◌<◌, min, arith, length, take, drop, get_or}
 use Rattle.regions.specs.Sizes.{region_size, kept_at, no_room}
 use Rattle.normalize_identifier.specs.Identity.{identity_of}
 use Rattle.signature.specs.declared.Signature.{Signature}

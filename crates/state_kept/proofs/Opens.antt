@@ -1,15 +1,11 @@
 -- A footnote's label is opened. Assumes nothing.
-use mathlib.Core.Path.{◌≡◌, sym, ◌∙◌}
-use mathlib.Core.List.{List, [], ◌∷◌}
-use Prim.Native.Nat.{ℕ, ◌+◌, ◌*◌, ◌≤◌, ◌<◌}
-use native.Mathlib.Omega.{arith}
-use lib.ListN.{length, set}
+use Rattle.std.proofs.Common.{◌≡◌, sym, ◌∙◌, List, [], ◌∷◌, ℕ, ◌+◌, ◌≤◌, ◌<◌, arith, length}
 use Rattle.machine.specs.State.{Span}
 use Rattle.machine.specs.Totals.{kept}
 use Rattle.state_kept.specs.declared.Kept.{Kept}
 use Rattle.state_kept.specs.Kept.{OpenLabels, Opened}
 use Rattle.state_kept.specs.Clauses.{OpensLabel}
-use Rattle.state_kept.specs.Private.{set_row}
+use Rattle.state_kept.specs.Private.{set_row, SetsRow}
 use Rattle.state_kept.proofs.Rows.{long-row, row-own, row_other}
 use Rattle.state_kept.specs.Sizes.{note_rows, label_words}
 
@@ -35,10 +31,6 @@ module _ {table : List ℕ} {i : ℕ} {ps : List Span} (a b : ℕ) where
         each = (rw m (row-own note_rows i 0 (a ∷ b ∷ []) table h (omega arith) (omega arith)), rw m (row-own note_rows i 1 (a ∷ b ∷ []) table h (omega arith) (omega arith)), open_stays table i a b ps h (omega arith) o.each);
       }
 
--- as the code writes it
-two-words : (table : List ℕ) (i a b : ℕ) → set (set table i a) (note_rows + i) b ≡ set_row note_rows i 0 (a ∷ b ∷ []) table
-two-words table i a b = let e : 0 * note_rows + i ≡ i = omega arith in rw e
-
 module _ {k : Kept} {from to : ℕ} {labels : List ℕ} where
   pub opens-short : (length labels ≡ label_words → ⊥) → OpensLabel k from to labels k labels
   opens-short h = record { opens = λ t l. absurd (h t.long.labels) }
@@ -46,10 +38,10 @@ module _ {k : Kept} {from to : ℕ} {labels : List ℕ} where
   pub opens-full : note_rows ≤ k.labels → OpensLabel k from to labels k labels
   opens-full h = record { opens = λ t l. absurd (omega (arith, t.labels.rows)) }
 
-  pub opens-label : k.labels < note_rows → OpensLabel k from to labels (with_labels (k.labels + 1) k) (set (set labels k.labels from) (note_rows + k.labels) to)
+  pub opens-label : {labels' : List ℕ} → (length labels ≡ label_words) → k.labels < note_rows → SetsRow note_rows k.labels (from ∷ to ∷ []) labels labels' → OpensLabel k from to labels (with_labels (k.labels + 1) k) labels'
   unfolding kept
-  opens-label h = record {
-    opens = λ t l. rw two-words (record {
+  opens-label e h r = record {
+    opens = λ t l. rw (r.row h (sym e)) (record {
       long = record { definitions = t.long.definitions; footnotes = t.long.footnotes; calls = t.long.calls; labels = long-row note_rows k.labels 0 (from ∷ to ∷ []) labels ∙ t.long.labels };
       end = t.end;
       definitions = t.definitions;

@@ -1,11 +1,6 @@
 -- Pieces of a region: those that stand stay when bytes are appended, which are a piece themselves. Assumes nothing.
-use mathlib.Core.Path.{◌≡◌, sym, ap, ◌∙◌}
-use mathlib.Core.List.{List, [], ◌++◌}
-use mathlib.Core.Option.{Option, none, some}
-use Prim.Native.Nat.{ℕ, zero, suc, ◌+◌, ◌≤◌}
-use native.Mathlib.Omega.{arith}
-use lib.ListN.{length, take, drop, length-take}
-use lib.Seq.{take-add, drop_at}
+use Rattle.std.proofs.Common.{◌≡◌, sym, ap, ◌∙◌, List, ◌++◌, ℕ, zero, suc, ◌+◌, ◌≤◌, arith, length, take, drop, length-take, take-add, drop_at}
+use Rattle.std.proofs.Math.Option.{Option, none, some}
 use Rattle.lent.specs.Fill.{fill}
 use Rattle.lent.proofs.Laws.{front-before, take-fill}
 use Rattle.state_kept.specs.Kept.{Piece, Optional}

@@ -1,20 +1,10 @@
 -- For callers: where the machine's next state is within the tables, a call can be counted; what is found is there. Assumes nothing.
-use Rattle.std.specs.Prelude.{if◌then◌else◌}
-use mathlib.Core.Path.{◌≡◌, refl, ap, ◌∙◌}
-use mathlib.Core.Bool.{Bool, true, false}
-use mathlib.Core.List.{List, [], ◌∷◌}
-use Prim.Native.Nat.{ℕ, zero, suc, ◌+◌, ◌≤◌, ◌<◌}
-use native.Mathlib.Omega.{arith}
-use native.Mathlib.Decide.{dec_lt}
-use borrow.Author.Tests.{ltb-true}
-use lib.Dec.{ltb}
-use lib.ListN.{length}
+use Rattle.std.proofs.Common.{if◌then◌else◌, Some, None, ◌≡◌, refl, ap, ◌∙◌, Bool, true, false, List, [], ◌∷◌, ℕ, zero, suc, ◌+◌, ◌≤◌, ◌<◌, arith, ltb-true, ltb, length}
+use Rattle.std.proofs.Math.Decide.{dec_lt}
 use Rattle.lent.specs.Bytes.{same}
 use Rattle.lent.proofs.Laws.{and_left, and_right}
-use Rattle.normalize_identifier.specs.declared.Found.{Found}
-use Rattle.normalize_identifier.specs.declared.Found.TheVariants.{At, Nothing}
 use Rattle.normalize_identifier.specs.Identity.{identity_of}
-use Rattle.normalize_identifier.specs.Search.{first_from, first_same}
+use Rattle.normalize_identifier.specs.Search.{Found, first_from, first_same}
 use Rattle.machine.specs.State.{Call}
 use Rattle.machine.specs.Footnote.{call_labels, call_index, at_or, count_at, times_at}
 use Rattle.machine_bounded.specs.Within.{countable}
@@ -25,16 +15,16 @@ use Rattle.state_kept.specs.Sizes.{note_rows}
 
 -- ---- what is found is there
 
-found_from : (j : ℕ) (ls : List (List ℕ)) (label : List ℕ) (k : ℕ) → first_from j ls label ≡ At k → k < j + length ls
+found_from : (j : ℕ) (ls : List (List ℕ)) (label : List ℕ) (k : ℕ) → first_from j ls label ≡ Some k → k < j + length ls
 unfolding first_from
 found_from j [] label k p = let z : ◌≡◌ {A = ℕ} 0 1 = cc in absurd (omega arith)
 found_from j (l ∷ ls) label k p = on (same (identity_of l) (identity_of label)) p (found_from (j + 1) ls label k)
   where
-    on : (x : Bool) → (if x then At j else first_from (j + 1) ls label) ≡ At k → (first_from (j + 1) ls label ≡ At k → k < j + 1 + length ls) → k < j + suc (length ls)
+    on : (x : Bool) → (if x then Some j else first_from (j + 1) ls label) ≡ Some k → (first_from (j + 1) ls label ≡ Some k → k < j + 1 + length ls) → k < j + suc (length ls)
     on true q r = let e : j ≡ k = cc in omega arith
     on false q r = let x = r q in omega arith
 
-pub found-low : (ls : List (List ℕ)) (label : List ℕ) (k : ℕ) → first_same ls label ≡ At k → k < length ls
+pub found-low : (ls : List (List ℕ)) (label : List ℕ) (k : ℕ) → first_same ls label ≡ Some k → k < length ls
 unfolding first_same
 found-low ls label k p = let x = found_from 0 ls label k p in omega arith
 
@@ -42,8 +32,8 @@ pub call-index-low : (label : List ℕ) (cs : List Call) → call_index label cs
 call-index-low label cs = on (first_same (call_labels cs) label) refl
   where
     on : (f : Found) → first_same (call_labels cs) label ≡ f → at_or (length cs) f ≤ length cs
-    on (At k) e = let x = found-low (call_labels cs) label k e in let y = call-labels-long cs in omega arith
-    on Nothing e = omega arith
+    on (Some k) e = let x = found-low (call_labels cs) label k e in let y = call-labels-long cs in omega arith
+    on None e = omega arith
 
 -- ---- a call can be counted
 

@@ -1,11 +1,6 @@
 -- Tables of columns: what a word set in one row is to each column. Assumes nothing.
-use mathlib.Core.Path.{◌≡◌, refl, sym, ap, ◌∙◌}
-use mathlib.Core.List.{List, [], ◌∷◌}
-use Prim.Native.Nat.{ℕ, zero, suc, ◌+◌, ◌-◌, ◌*◌, ◌≤◌, ◌<◌}
-use native.Mathlib.Nat.{mul-le-mul_right, suc-mul}
-use native.Mathlib.Omega.{arith}
-use lib.ListN.{length, take, drop, set, get_or, length-set, length-take, length-drop, drop_of_length-le, get_or-eq_default}
-use lib.Seq.{get_or-set_same, get_or-set_other, get_or-take, get_or-drop, drop-set-lt, drop-set-add, take-set-le, take-set-lt, take_all, take-nil}
+use Rattle.std.proofs.Common.{◌≡◌, refl, ap, ◌∙◌, List, [], ◌∷◌, ℕ, zero, suc, ◌+◌, ◌-◌, ◌*◌, ◌≤◌, ◌<◌, mul-le-mul_right, suc-mul, arith, length, take, drop, set, get_or, length-set, length-take, length-drop, get_or-set_same, get_or-set_other, get_or-take, get_or-drop, drop-set-lt}
+use Rattle.std.proofs.Math.Seq.{drop-set-add, take-set-le, take-set-lt}
 use Rattle.state_kept.specs.Kept.{column}
 use Rattle.state_kept.specs.Private.{set_row}
 
@@ -33,39 +28,6 @@ module _ (n k i v : ℕ) (table : List ℕ) (h : i < n) where
 
   pub behind-column : (j : ℕ) → k < j → column n j (set table (k * n + i) v) ≡ column n j table
   behind-column j l = ap (take n) (drop-set-lt (j * n) table (k * n + i) v (let x = earlier n k j l in omega arith))
-
--- ---- a word that is read
-
-module _ (table : List ℕ) (start n i : ℕ) where
-  no_word : length (take n (drop start table)) ≤ i → 0 ≡ get_or (take n (drop start table)) i 0
-  no_word h = sym (get_or-eq_default (take n (drop start table)) 0 h)
-
-  pub row_out : n ≤ i → 0 ≡ get_or (take n (drop start table)) i 0
-  row_out h = no_word (simp length-take (omega arith))
-
-  pub column-out : length table ≤ start → 0 ≡ get_or (take n (drop start table)) i 0
-  column-out h = no_word (simp (length-take, length-drop) (omega arith))
-
-  pub word_out : length table - start ≤ i → 0 ≡ get_or (take n (drop start table)) i 0
-  word_out h = no_word (simp (length-take, length-drop) (omega arith))
-
-  pub word_in : i < n → get_or table (start + i) 0 ≡ get_or (take n (drop start table)) i 0
-  word_in h = sym (get_or-take n (drop start table) i 0 h ∙ get_or-drop start table i 0)
-
--- ---- a column, by how it lies in the table
-
-module _ (table : List ℕ) (start n : ℕ) where
-  pub column-behind : length table < start → take 0 (drop 0 table) ≡ take n (drop start table)
-  column-behind h = let l : length table ≤ start = omega arith in rw (drop_of_length-le table l) (sym (take-nil n))
-
-  pub column-cut : length table - start < n → take (length table - start) (drop start table) ≡ take n (drop start table)
-  column-cut h =
-      let l : length (drop start table) ≤ length table - start = simp length-drop (omega arith) in
-      let m : length (drop start table) ≤ n = simp length-drop (omega arith) in
-      take_all (length table - start) (drop start table) l ∙ sym (take_all n (drop start table) m)
-
-  pub column-all : take (start + n - start) (drop start table) ≡ take n (drop start table)
-  column-all = let e : start + n - start ≡ n = omega arith in rw e
 
 -- ---- a row
 

@@ -1,10 +1,5 @@
 -- For callers: nothing is kept at the start, what stands for a state stands for one that keeps the same, and a region's piece is one of the work bytes. Assumes nothing.
-use mathlib.Core.Path.{◌≡◌, refl, sym, ap, ◌∙◌}
-use mathlib.Core.List.{List, []}
-use Prim.Native.Nat.{ℕ, ◌+◌, ◌≤◌}
-use native.Mathlib.Omega.{arith}
-use lib.ListN.{take, drop}
-use lib.Seq.{drop-drop}
+use Rattle.std.proofs.Common.{◌≡◌, refl, sym, ap, ◌∙◌, List, [], ℕ, ◌+◌, ◌≤◌, arith, take, drop, drop-drop}
 use Rattle.regions.specs.Sizes.{region_size}
 use Rattle.normalize_identifier.specs.Search.{parts, labels_of}
 use Rattle.signature.specs.Signed.{Signs}

@@ -2,8 +2,7 @@
 use Rattle.std.specs.Prelude.{◌≡◌, List, ◌∷◌, ℕ, ◌≤◌, ◌<◌, length, take}
 use Rattle.regions.specs.Regions.{region_at}
 use Rattle.regions.specs.Sizes.{kept_at, work_size}
-use Rattle.normalize_identifier.specs.declared.Found.{Found}
-use Rattle.normalize_identifier.specs.Search.{first_same}
+use Rattle.normalize_identifier.specs.Search.{Found, first_same}
 use Rattle.machine.specs.State.{State, Span, Definition}
 use Rattle.machine.specs.Set.{set_labels, set_calls, add_footnote, add_definition}
 use Rattle.machine.specs.Media.{definition_labels}

@@ -2,22 +2,19 @@
 // A table is its columns, one behind the other. Where a table is no table of the right size, or full, a function does nothing.
 #![tactic(auto)]
 
-ghost use Rattle.std.specs.Prelude.{◌≡◌, [], ◌∷◌, take, drop, get_or};
+ghost use Rattle.std.specs.Prelude.{◌≡◌, ◌+◌, ◌*◌, ◌^◌, ◌<◌, length, take, drop, get_or};
 ghost use Rattle.state_kept.specs.Kept.{nothing_kept, column};
 ghost use Rattle.state_kept.specs.Clauses.{OpensLabel, FindsCall, FindsDefinition, FindsFootnote, CountsCall, TellsTimes, KeepsFootnote, KeepsDefinition};
-ghost use Rattle.state_kept.specs.Private.{SetsRow, FindsLabel, CarriesTitle};
+ghost use Rattle.state_kept.specs.Private.{SetsRow, Cut, CarriesTitle};
 ghost use Rattle.state_kept.specs.Sizes.{definition_rows, note_rows};
 
-use normalize_identifier::Found;
-use signature::Signature;
+use signature::Columns;
 
 // Rows: of the definitions; of the footnotes, of the calls and of the labels of open footnotes.
 const DEFINITIONS: usize = 128;
 
 const NOTES: usize = 64;
-// Where the columns of the definitions start, behind the first; and all words.
-const DEFINITION_TO: usize = DEFINITIONS;
-
+// Where columns of the definitions start; and all words.
 const DEFINITION_PLACE: usize = 2 * DEFINITIONS;
 
 const DEFINITION_LENGTH: usize = 3 * DEFINITIONS;
@@ -26,19 +23,13 @@ const DEFINITION_TITLE: usize = 4 * DEFINITIONS;
 
 const DEFINITION_FIRST: usize = 5 * DEFINITIONS;
 
-const DEFINITION_SECOND: usize = 6 * DEFINITIONS;
-
 pub const DEFINITION_WORDS: usize = 7 * DEFINITIONS;
 // Of the footnotes.
-const FOOTNOTE_TO: usize = NOTES;
-
 const FOOTNOTE_PLACE: usize = 2 * NOTES;
 
 const FOOTNOTE_LENGTH: usize = 3 * NOTES;
 
 const FOOTNOTE_FIRST: usize = 4 * NOTES;
-
-const FOOTNOTE_SECOND: usize = 5 * NOTES;
 
 pub const FOOTNOTE_WORDS: usize = 6 * NOTES;
 // Of the calls.
@@ -47,8 +38,6 @@ const CALL_TO: usize = NOTES;
 const CALL_TIMES: usize = 2 * NOTES;
 
 const CALL_FIRST: usize = 3 * NOTES;
-
-const CALL_SECOND: usize = 4 * NOTES;
 
 pub const CALL_WORDS: usize = 5 * NOTES;
 // Of the labels of open footnotes.
@@ -82,22 +71,38 @@ pub fn new() -> Kept
 
 // ---- words of a table
 
+// The column of n rows that starts at a place, as much of it as there is.
+fn column_at(table: &[usize], start: usize, n: usize) -> &[usize]
+    ensures { result.now ≡ take n (drop start table.now) }
+{
+    let rest = table.get(start..).unwrap_or(&[]);
+    &rest[..n.min(rest.len())]
+}
+
 // The word in row i of the column of n rows that starts at a place; 0 where there is none.
 fn word(table: &[usize], start: usize, n: usize, i: usize) -> usize
     ensures { result ≡ get_or (take n (drop start table.now)) i 0 }
 {
-    if n <= i {
-        return 0;
-    }
-    if table.len() <= start {
-        return 0;
-    }
-    if table.len() - start <= i {
-        return 0;
-    }
-    table[start + i]
+    column_at(table, start, n).get(i).copied().unwrap_or(0)
 }
 
+// Sets the words of row i, one in each column of as many rows.
+fn put_row(table: &mut [usize], rows: usize, i: usize, words: &[usize])
+    requires { length words.now * rows < 2 ^ 64 }
+    ensures { SetsRow rows i words.now table.old table.new }
+{
+    if table.len() != words.len() * rows {
+        return;
+    }
+    if rows <= i {
+        return;
+    }
+    for (k, word) in words.iter().enumerate() {
+        table[k * rows + i] = *word;
+    }
+}
+
+// The readers of a word by its name, a line each: with the column as a const parameter each call would say the name.
 // Where a definition's destination stands in the kept bytes.
 pub fn definition_place(definitions: &[usize], i: usize) -> usize
     ensures { result ≡ get_or (column definition_rows 2 definitions.now) i 0 }
@@ -111,7 +116,7 @@ pub fn definition_length(definitions: &[usize], i: usize) -> usize
     word(definitions, DEFINITION_LENGTH, DEFINITIONS, i)
 }
 
-// 0 without a title, else one more than its length; it stands behind the destination.
+// 0 without a title, else one more than its length; it stands behind the destination. A number and no Option: it is a word of the table.
 pub fn definition_title(definitions: &[usize], i: usize) -> usize
     ensures { result ≡ get_or (column definition_rows 4 definitions.now) i 0 }
 {
@@ -156,119 +161,65 @@ pub fn open_label(k: Kept, from: usize, to: usize, labels: &mut [usize]) -> Kept
     if NOTES <= i {
         return k;
     }
-    labels[i] = from;
-    labels[LABEL_TO + i] = to;
-    let mut r = k;
-    r.labels = i + 1;
-    r
+    put_row(labels, NOTES, i, &[from, to]);
+    Kept { labels: i + 1, ..k }
 }
 
 // ---- searches
 
-// The column of n rows that starts at a place, as much of it as there is.
-fn column_at(table: &[usize], start: usize, n: usize) -> &[usize]
-    ensures { result.now ≡ take n (drop start table.now) }
+// The columns that a search goes by: the first two of a table are the places of its labels, and two from a place on their signatures.
+fn columns_of(table: &[usize], rows: usize, first: usize) -> Columns<'_>
+    requires { first + rows < 2 ^ 64 }
+    ensures { Cut table.now rows first result }
 {
-    if table.len() < start {
-        return &table[0..0];
+    Columns {
+        starts: column_at(table, 0, rows),
+        ends: column_at(table, rows, rows),
+        firsts: column_at(table, first, rows),
+        seconds: column_at(table, first + rows, rows),
     }
-    if table.len() - start < n {
-        return &table[start..];
-    }
-    let end = start + n;
-    &table[start..end]
-}
-
-// The first of n labels that has the identity of the text's part from one place to another. Their places are the first two columns of a table, their signatures two more.
-fn find_label(
-    text: &[u8],
-    from: usize,
-    to: usize,
-    table: &[usize],
-    rows: usize,
-    first: usize,
-    second: usize,
-    n: usize,
-) -> Found
-    ensures { FindsLabel text.now from to table.now rows first second n result }
-{
-    let starts = column_at(table, 0, rows);
-    let ends = column_at(table, rows, rows);
-    let firsts = column_at(table, first, rows);
-    let seconds = column_at(table, second, rows);
-    let label = signature::part(text, from, to);
-    signature::find(text, starts, ends, firsts, seconds, n, label)
 }
 
 // The index of the call of a label, or the one behind the last.
 pub fn call_index(k: Kept, text: &[u8], from: usize, to: usize, calls: &[usize]) -> usize
     ensures { FindsCall k text.now from to calls.now result }
 {
-    let found = find_label(
-        text,
-        from,
-        to,
-        calls,
-        NOTES,
-        CALL_FIRST,
-        CALL_SECOND,
-        k.calls,
-    );
-    match found {
-        Found::At(i) => i,
-        Found::Nothing => k.calls,
-    }
+    let columns = columns_of(calls, NOTES, CALL_FIRST);
+    let label = signature::part(text, from, to);
+    signature::find(text, columns, k.calls, label).unwrap_or(k.calls)
 }
 
 // Where a label is defined first.
-pub fn find_definition(k: Kept, text: &[u8], from: usize, to: usize, definitions: &[usize]) -> Found
+pub fn find_definition(
+    k: Kept,
+    text: &[u8],
+    from: usize,
+    to: usize,
+    definitions: &[usize],
+) -> Option<usize>
     ensures { FindsDefinition k text.now from to definitions.now result }
 {
-    find_label(
-        text,
-        from,
-        to,
-        definitions,
-        DEFINITIONS,
-        DEFINITION_FIRST,
-        DEFINITION_SECOND,
-        k.definitions,
-    )
+    let columns = columns_of(definitions, DEFINITIONS, DEFINITION_FIRST);
+    let label = signature::part(text, from, to);
+    signature::find(text, columns, k.definitions, label)
 }
 
 // Which footnote has a label: of equal ones the first to end.
-pub fn find_footnote(k: Kept, text: &[u8], from: usize, to: usize, footnotes: &[usize]) -> Found
+pub fn find_footnote(
+    k: Kept,
+    text: &[u8],
+    from: usize,
+    to: usize,
+    footnotes: &[usize],
+) -> Option<usize>
     ensures { FindsFootnote k text.now from to footnotes.now result }
 {
-    find_label(
-        text,
-        from,
-        to,
-        footnotes,
-        NOTES,
-        FOOTNOTE_FIRST,
-        FOOTNOTE_SECOND,
-        k.footnotes,
-    )
+    let columns = columns_of(footnotes, NOTES, FOOTNOTE_FIRST);
+    let label = signature::part(text, from, to);
+    signature::find(text, columns, k.footnotes, label)
 }
 
 // ---- calls
-
-fn put_call(calls: &mut [usize], i: usize, from: usize, to: usize, s: Signature)
-    ensures { SetsRow note_rows i (from ∷ to ∷ 1 ∷ s.first ∷ s.second ∷ []) calls.old calls.new }
-{
-    if calls.len() != CALL_WORDS {
-        return;
-    }
-    if NOTES <= i {
-        return;
-    }
-    calls[i] = from;
-    calls[CALL_TO + i] = to;
-    calls[CALL_TIMES + i] = 1;
-    calls[CALL_FIRST + i] = s.first;
-    calls[CALL_SECOND + i] = s.second;
-}
 
 // A call at an index is counted; a new one stands behind the last.
 pub fn count_call(
@@ -296,10 +247,12 @@ pub fn count_call(
         return k;
     }
     let label = signature::part(text, from, to);
-    put_call(calls, index, from, to, signature::sign(label));
-    let mut r = k;
-    r.calls = index + 1;
-    r
+    let s = signature::sign(label);
+    put_row(calls, NOTES, index, &[from, to, 1, s.first, s.second]);
+    Kept {
+        calls: index + 1,
+        ..k
+    }
 }
 
 // How often a call was counted.
@@ -310,31 +263,6 @@ pub fn times_at(calls: &[usize], index: usize) -> usize
 }
 
 // ---- what is kept in bytes
-
-fn put_footnote(
-    footnotes: &mut [usize],
-    i: usize,
-    from: usize,
-    to: usize,
-    place: usize,
-    n: usize,
-    s: Signature,
-)
-    ensures { SetsRow note_rows i (from ∷ to ∷ place ∷ n ∷ s.first ∷ s.second ∷ []) footnotes.old footnotes.new }
-{
-    if footnotes.len() != FOOTNOTE_WORDS {
-        return;
-    }
-    if NOTES <= i {
-        return;
-    }
-    footnotes[i] = from;
-    footnotes[FOOTNOTE_TO + i] = to;
-    footnotes[FOOTNOTE_PLACE + i] = place;
-    footnotes[FOOTNOTE_LENGTH + i] = n;
-    footnotes[FOOTNOTE_FIRST + i] = s.first;
-    footnotes[FOOTNOTE_SECOND + i] = s.second;
-}
 
 // The newest open footnote ends: n bytes of the work bytes are its body.
 pub fn keep_footnote(
@@ -348,54 +276,30 @@ pub fn keep_footnote(
 ) -> Kept
     ensures { KeepsFootnote k text.now from n work.old footnotes.old labels.now result work.new footnotes.new }
 {
-    let mut r = k;
     if k.labels == 0 {
-        return r;
+        return k;
     }
     let open = k.labels - 1;
-    r.labels = open;
+    let closed = Kept { labels: open, ..k };
     if regions::SIZE < k.end {
-        return r;
+        return closed;
     }
     let i = k.footnotes;
     if NOTES <= i {
-        return r;
+        return closed;
     }
-    r.end = regions::carry(work, from, n, regions::KEPT_AT, k.end);
+    let end = regions::carry(work, from, n, regions::KEPT_AT, k.end);
     let label_from = word(labels, 0, NOTES, open);
     let label_to = word(labels, LABEL_TO, NOTES, open);
     let label = signature::part(text, label_from, label_to);
     let s = signature::sign(label);
-    put_footnote(footnotes, i, label_from, label_to, k.end, n, s);
-    r.footnotes = i + 1;
-    r
-}
-
-fn put_definition(
-    definitions: &mut [usize],
-    i: usize,
-    from: usize,
-    to: usize,
-    place: usize,
-    n: usize,
-    title: usize,
-    s: Signature,
-)
-    ensures { SetsRow definition_rows i (from ∷ to ∷ place ∷ n ∷ title ∷ s.first ∷ s.second ∷ []) definitions.old definitions.new }
-{
-    if definitions.len() != DEFINITION_WORDS {
-        return;
+    let words = [label_from, label_to, k.end, n, s.first, s.second];
+    put_row(footnotes, NOTES, i, &words);
+    Kept {
+        end,
+        footnotes: i + 1,
+        ..closed
     }
-    if DEFINITIONS <= i {
-        return;
-    }
-    definitions[i] = from;
-    definitions[DEFINITION_TO + i] = to;
-    definitions[DEFINITION_PLACE + i] = place;
-    definitions[DEFINITION_LENGTH + i] = n;
-    definitions[DEFINITION_TITLE + i] = title;
-    definitions[DEFINITION_FIRST + i] = s.first;
-    definitions[DEFINITION_SECOND + i] = s.second;
 }
 
 // A title goes behind the kept bytes, where there is one.
@@ -430,12 +334,15 @@ pub fn keep_definition(
     if DEFINITIONS <= i {
         return k;
     }
-    let mut r = k;
     let middle = regions::carry(work, place, n, regions::KEPT_AT, k.end);
-    r.end = carry_title(work, title_place, title, middle);
+    let end = carry_title(work, title_place, title, middle);
     let label = signature::part(text, from, to);
     let s = signature::sign(label);
-    put_definition(definitions, i, from, to, k.end, n, title, s);
-    r.definitions = i + 1;
-    r
+    let words = [from, to, k.end, n, title, s.first, s.second];
+    put_row(definitions, DEFINITIONS, i, &words);
+    Kept {
+        end,
+        definitions: i + 1,
+        ..k
+    }
 }

@@ -1,19 +1,14 @@
 -- Pieces of the held bytes when more is held. Assumes nothing.
-use mathlib.Core.Path.{◌≡◌, refl, sym, ap, ◌∙◌}
-use mathlib.Core.List.{List, [], ◌∷◌, ◌++◌}
-use mathlib.Core.Option.{Option, none, some}
-use Prim.Native.Nat.{ℕ, zero, suc, ◌+◌, ◌-◌, ◌≤◌, ◌<◌, min}
+use Rattle.std.proofs.Common.{Some, None, ◌≡◌, sym, ap, ◌∙◌, List, [], ◌∷◌, ℕ, zero, suc, ◌+◌, ◌≤◌, arith, length, take, drop, length-take, drop_at}
+use Rattle.std.specs.Prelude.{Option as CodeOption}
+use Rattle.std.proofs.Math.Option.{Option, none, some}
 use native.Mathlib.Decide.{dec_le}
-use native.Mathlib.Omega.{arith}
-use lib.ListN.{length, take, drop, length-take, length-drop}
-use lib.Seq.{take-nil, drop_at}
-use Rattle.lent.specs.Fill.{fill, Filled}
-use Rattle.lent.proofs.Laws.{front-before, take-fill, length-filled}
+use lib.Seq.{take-nil}
+use Rattle.lent.specs.Fill.{Filled}
+use Rattle.lent.proofs.Laws.{front-before, take-fill}
 use Rattle.machine.specs.State as State
 use Rattle.machine.specs.State.{no_destination, own, defined}
 use Rattle.state_media.specs.declared.Piece.{Piece}
-use Rattle.state_media.specs.declared.Text.{Text}
-use Rattle.state_media.specs.declared.Text.TheVariants as T
 use Rattle.state_media.specs.declared.Destination.{Destination}
 use Rattle.state_media.specs.declared.Destination.TheVariants as D
 use Rattle.state_media.specs.declared.Media.{Media}
@@ -52,11 +47,11 @@ module _ {d s e : List ℕ} {at r end end' : ℕ} (f : Filled d at s e r) (h : e
         ];
       }
 
-  pub text-stays : (t : Text) (b : Option (List ℕ)) → TextIs d end t b → TextIs e end' t b
-  text-stays T.Unset none x = x
-  text-stays T.Unset (some b) x = x
-  text-stays (T.Is p) none x = x
-  text-stays (T.Is p) (some b) x = piece-stays x
+  pub text-stays : (t : CodeOption Piece) (b : Option (List ℕ)) → TextIs d end t b → TextIs e end' t b
+  text-stays None none x = x
+  text-stays None (some b) x = x
+  text-stays (Some p) none x = x
+  text-stays (Some p) (some b) x = piece-stays x
 
   pub destination-stays : (t : Destination) (b : State.Destination) → DestinationIs d end t b → DestinationIs e end' t b
   destination-stays D.Nowhere no_destination x = x

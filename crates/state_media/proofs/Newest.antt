@@ -1,26 +1,20 @@
 -- Media opened, closed and known better; what is held for them. Assumes nothing.
-use mathlib.Core.Path.{◌≡◌, refl, sym, ap, ◌∙◌}
-use mathlib.Core.Bool.{Bool, true, false, ◌&&◌, ◌||◌}
-use mathlib.Core.List.{List, [], ◌∷◌}
-use mathlib.Core.Option.{Option, none, some}
-use Prim.Native.Nat.{ℕ, suc, min, ◌+◌, ◌≤◌, ◌<◌}
-use native.Mathlib.Omega.{arith}
-use lib.ListN.{length, take, drop}
+use Rattle.std.proofs.Common.{Some, None, ◌≡◌, refl, ap, ◌∙◌, Bool, true, ◌&&◌, ◌||◌, List, [], ◌∷◌, ℕ, suc, ◌≤◌, arith, length}
+use Rattle.std.specs.Prelude.{Option as CodeOption}
+use Rattle.std.proofs.Math.Option.{Option, none, some}
 use Rattle.lent.proofs.Laws.{and_left, and_right}
 use Rattle.machine.specs.State as State
 use Rattle.machine.specs.State.{State, no_destination, own, defined}
-use Rattle.machine.specs.Set.{set_media}
 use Rattle.machine.specs.Media.{new_media, any_image}
 use Rattle.machine.specs.Totals.{size, media_sizes, held, most_total}
 use Rattle.machine_bounded.specs.Within.{is_unset, is_nowhere, is_bare, newest_is_bare}
 use Rattle.packed.specs.declared.Tight.{Tight}
-use Rattle.packed.specs.Tight.{Tightened, older, newest_of, any_of, More, Fewer, Newest, Any}
-use Rattle.state_media.specs.declared.Text.{Text}
-use Rattle.state_media.specs.declared.Text.TheVariants as T
+use Rattle.packed.specs.Tight.{Tightened, older, any_of, More, Fewer, Newest, Any}
+use Rattle.state_media.specs.declared.Piece.{Piece}
 use Rattle.state_media.specs.declared.Media.{Media}
 use Rattle.state_media.specs.declared.Links.{Links}
 use Rattle.state_media.specs.Private.{bare_media, length_of}
-use Rattle.state_media.specs.Links.{images_of, bares, OthersBare, NewestIs, MediaIs, TextIs, Linked, Opens, Closes, IsImage, AnyOlderImage}
+use Rattle.state_media.specs.Links.{images_of, bares, OthersBare, NewestIs, MediaIs, TextIs, Opens, Closes, IsImage, AnyOlderImage}
 
 -- ---- bare media
 
@@ -82,11 +76,11 @@ any-image : (ms : List State.Media) → any_of (images_of ms) ≡ any_image ms
 any-image [] = refl
 any-image (m ∷ ms) = ap (λ (x : Bool). m.image || x) (any-image ms)
 
-text-size : (region : List ℕ) (end : ℕ) (t : Text) (b : Option (List ℕ)) → TextIs region end t b → length_of t ≡ size b
-text-size region end T.Unset none x = refl
-text-size region end T.Unset (some b) x = absurd x
-text-size region end (T.Is p) none x = absurd x
-text-size region end (T.Is p) (some b) x = x.long
+text-size : (region : List ℕ) (end : ℕ) (t : CodeOption Piece) (b : Option (List ℕ)) → TextIs region end t b → length_of t ≡ size b
+text-size region end None none x = refl
+text-size region end None (some b) x = absurd x
+text-size region end (Some p) none x = absurd x
+text-size region end (Some p) (some b) x = x.long
 
 -- ---- opened and closed
 

@@ -1,30 +1,24 @@
 -- What was captured, held: for the newest medium, or as a setext heading's text. Assumes nothing.
-use mathlib.Core.Path.{◌≡◌, refl, sym, ap, ◌∙◌}
-use mathlib.Core.List.{List, [], ◌∷◌}
-use mathlib.Core.Logic.{inl}
-use mathlib.Core.Option.{Option, none, some}
-use Prim.Native.Nat.{ℕ, min, ◌+◌, ◌≤◌, ◌<◌}
-use native.Mathlib.Omega.{arith}
-use lib.ListN.{length, take, drop, length-take, length-drop}
+use Rattle.std.proofs.Common.{Some, None, ◌≡◌, refl, sym, ◌∙◌, List, [], ◌∷◌, inl, ℕ, min, ◌+◌, ◌≤◌, arith, length, take, drop, length-take, length-drop}
+use Rattle.std.specs.Prelude.{Option as CodeOption}
+use Rattle.std.proofs.Math.Option.{Option, none, some}
 use Rattle.lent.specs.Fill.{Filled}
 use Rattle.lent.proofs.Laws.{length-filled}
 use Rattle.regions.specs.Regions.{region_at, Carries, Carried}
 use Rattle.regions.specs.Sizes.{region_size, held_at, work_size, no_room}
 use Rattle.machine.specs.State as State
 use Rattle.machine.specs.State.{State, no_destination, own, defined}
-use Rattle.machine.specs.Set.{set_media, set_setext}
+use Rattle.machine.specs.Set.{set_media}
 use Rattle.machine.specs.Media as M
 use Rattle.machine.specs.Media.{own_of}
 use Rattle.machine.specs.Totals.{size, media_sizes, held}
 use Rattle.machine_bounded.specs.Within.{parts_from}
 use Rattle.state_media.specs.declared.Piece.{Piece}
-use Rattle.state_media.specs.declared.Text.{Text}
-use Rattle.state_media.specs.declared.Text.TheVariants as T
 use Rattle.state_media.specs.declared.Destination.{Destination}
 use Rattle.state_media.specs.declared.Destination.TheVariants as D
 use Rattle.state_media.specs.declared.Media.{Media}
 use Rattle.state_media.specs.declared.Links.{Links}
-use Rattle.state_media.specs.Private.{with_label, with_destination, with_title}
+use Rattle.state_media.specs.Private.{held_up_to, HeldBehind}
 use Rattle.state_media.specs.Links.{PieceIs, TextIs, DestinationIs, MediaIs, NewestIs, Linked, Around, Stores, Holds, Releases}
 use Rattle.state_media.proofs.Held.{appended, text-stays, media-stays}
 
@@ -59,7 +53,7 @@ module _ {w w' : List ℕ} {from n at r : ℕ} (c : Carries w from n held_at at 
 -- ---- for the newest medium
 
 abbrev held_more : Media → ℕ → Links → Links
-held_more x r l = record { images = l.images; media = x; end = r; setext = l.setext }
+held_more x r l = record l { media = x; end = r }
 
 module _ (l : Links) {w w' : List ℕ} {from n r : ℕ} (c : Carries w from n held_at l.end w' r) where
   stored : (x : Media) (m' : State.Media → State.Media)
@@ -84,41 +78,44 @@ module _ (l : Links) {w w' : List ℕ} {from n r : ℕ} (c : Carries w from n he
         around c lw b,
       )
 
-module _ {l : Links} {w w' : List ℕ} {from n r : ℕ} {x : Media} (c : Carries w from n held_at l.end w' r) where
-  pub stores-label : x ≡ with_label (T.Is (record { place = l.end; length = n })) l.media → Stores M.label from n l w (held_more x r l) w'
-  stores-label e = record {
-    stores = λ s m ms p z lw b k.
-        let y = long-bytes c lw b in
-        rw e (stored l c (with_label (T.Is (record { place = l.end; length = n })) l.media) (M.with_part M.label (take n (drop from w))) s m ms p refl (omega arith)
-        (λ o i. record { label_id = o.label_id; label = i; reference_id = o.reference_id; destination = o.destination; title = o.title }) lw b k);
+pub held-behind : {l : Links} {w w' : List ℕ} {from n r : ℕ} → Carries w from n held_at l.end w' r → HeldBehind from n l w (held_up_to r l) (record { place = l.end; length = n }) w'
+held-behind {r = r} c = record { end = r; carries = c; held = refl; piece = refl }
+
+module _ {l r : Links} {w w' : List ℕ} {from n : ℕ} {p : Piece} (k : HeldBehind from n l w r p w') where
+  pub stores-label : Stores M.label from n l w (record r { media = record r.media { label = Some p } }) w'
+  stores-label = record {
+    stores = λ s m ms q z lw b i.
+        let y = long-bytes k.carries lw b in
+        rw (k.held, k.piece) (stored l k.carries (record l.media { label = Some (record { place = l.end; length = n }) }) (M.with_part M.label (take n (drop from w))) s m ms q refl (omega arith)
+        (λ o i. record { label_id = o.label_id; label = i; reference_id = o.reference_id; destination = o.destination; title = o.title }) lw b i);
   }
 
-  pub stores-destination : x ≡ with_destination (D.Own (record { place = l.end; length = n })) l.media → Stores M.destination from n l w (held_more x r l) w'
-  stores-destination e = record {
-    stores = λ s m ms p z lw b k.
-        let y = long-bytes c lw b in
-        rw e (stored l c (with_destination (D.Own (record { place = l.end; length = n })) l.media) (M.with_part M.destination (take n (drop from w))) s m ms p refl (omega arith)
-        (λ o i. record { label_id = o.label_id; label = o.label; reference_id = o.reference_id; destination = i; title = o.title }) lw b k);
+  pub stores-destination : Stores M.destination from n l w (record r { media = record r.media { destination = D.Own p } }) w'
+  stores-destination = record {
+    stores = λ s m ms q z lw b i.
+        let y = long-bytes k.carries lw b in
+        rw (k.held, k.piece) (stored l k.carries (record l.media { destination = D.Own (record { place = l.end; length = n }) }) (M.with_part M.destination (take n (drop from w))) s m ms q refl (omega arith)
+        (λ o i. record { label_id = o.label_id; label = o.label; reference_id = o.reference_id; destination = i; title = o.title }) lw b i);
   }
 
-  pub stores-title : x ≡ with_title (T.Is (record { place = l.end; length = n })) l.media → Stores M.title from n l w (held_more x r l) w'
-  stores-title e = record {
-    stores = λ s m ms p z lw b k.
-        let y = long-bytes c lw b in
-        rw e (stored l c (with_title (T.Is (record { place = l.end; length = n })) l.media) (M.with_part M.title (take n (drop from w))) s m ms p refl (omega arith)
-        (λ o i. record { label_id = o.label_id; label = o.label; reference_id = o.reference_id; destination = o.destination; title = i }) lw b k);
+  pub stores-title : Stores M.title from n l w (record r { media = record r.media { title = Some p } }) w'
+  stores-title = record {
+    stores = λ s m ms q z lw b i.
+        let y = long-bytes k.carries lw b in
+        rw (k.held, k.piece) (stored l k.carries (record l.media { title = Some (record { place = l.end; length = n }) }) (M.with_part M.title (take n (drop from w))) s m ms q refl (omega arith)
+        (λ o i. record { label_id = o.label_id; label = o.label; reference_id = o.reference_id; destination = o.destination; title = i }) lw b i);
   }
 
 -- ---- as a setext heading's text
 
-abbrev waiting : Text → ℕ → Links → Links
-waiting t n l = record { images = l.images; media = l.media; end = n; setext = t }
+abbrev waiting : CodeOption Piece → ℕ → Links → Links
+waiting t n l = record l { end = n; setext = t }
 
 newest-stays : {d s e : List ℕ} {at r end end' : ℕ} → Filled d at s e r → end ≤ at → end ≤ end' → (x : Media) (ms : List State.Media) → NewestIs d end x ms → NewestIs e end' x ms
 newest-stays f h k x [] y = tt
 newest-stays f h k x (m ∷ ms) y = media-stays f h k y
 
-pub holds : {l : Links} {w w' : List ℕ} {from n r : ℕ} → Carries w from n held_at 0 w' r → Holds from n l w (waiting (T.Is (record { place = 0; length = n })) r l) w'
+pub holds : {l : Links} {w w' : List ℕ} {from n r : ℕ} → Carries w from n held_at 0 w' r → Holds from n l w (waiting (Some (record { place = 0; length = n })) r l) w'
 unfolding held
 holds {l} {w} {w'} {from} {n} {r} c = record {
   holds = λ s z lw b k.
@@ -143,11 +140,11 @@ holds {l} {w} {w'} {from} {n} {r} c = record {
 nothing-anywhere : {region : List ℕ} {end end' : ℕ} {p : Piece} {b : List ℕ} → length b ≡ 0 → PieceIs region end p b → PieceIs region end' p b
 nothing-anywhere z x = let n = x.long in record { long = n; inside = x.inside; below = λ a. absurd (omega arith); bytes = x.bytes }
 
-text-anywhere : (region : List ℕ) (end end' : ℕ) (t : Text) (b : Option (List ℕ)) → size b ≡ 0 → TextIs region end t b → TextIs region end' t b
-text-anywhere region end end' T.Unset none z x = x
-text-anywhere region end end' T.Unset (some b) z x = x
-text-anywhere region end end' (T.Is p) none z x = x
-text-anywhere region end end' (T.Is p) (some b) z x = nothing-anywhere z x
+text-anywhere : (region : List ℕ) (end end' : ℕ) (t : CodeOption Piece) (b : Option (List ℕ)) → size b ≡ 0 → TextIs region end t b → TextIs region end' t b
+text-anywhere region end end' None none z x = x
+text-anywhere region end end' None (some b) z x = x
+text-anywhere region end end' (Some p) none z x = x
+text-anywhere region end end' (Some p) (some b) z x = nothing-anywhere z x
 
 destination-anywhere : (region : List ℕ) (end end' : ℕ) (t : Destination) (b : State.Destination) → size (own_of b) ≡ 0 → DestinationIs region end t b → DestinationIs region end' t b
 destination-anywhere region end end' D.Nowhere no_destination z x = x
@@ -170,7 +167,7 @@ newest-anywhere region end end' x (m ∷ ms) z y = record {
   title = text-anywhere region end end' x.title m.title (omega arith) y.title;
 }
 
-pub releases : {l : Links} → Releases l (waiting T.Unset 0 l)
+pub releases : {l : Links} → Releases l (waiting None 0 l)
 unfolding held
 releases {l} = record {
   releases = λ region s z h k.

@@ -1,5 +1,6 @@
 -- How open media and a waiting setext text stand in the code's state and in the held bytes. Assumes nothing.
-use Rattle.std.specs.Prelude.{◌≡◌, Bool, true, false, List, [], ◌∷◌, ℕ, min, ◌+◌, ◌≤◌, ◌<◌, length, take, drop}
+use Rattle.std.specs.Prelude.{◌≡◌, Bool, true, List, [], ◌∷◌, ℕ, min, ◌+◌, ◌≤◌, ◌<◌, length, take, drop}
+use Rattle.std.specs.Prelude.{Option as CodeOption, Some, None}
 use Rattle.std.proofs.Math.Option.{Option, none, some}
 use Rattle.regions.specs.Sizes.{region_size, held_at, kept_at, work_size, no_room}
 use Rattle.machine.specs.State as State
@@ -11,11 +12,7 @@ use Rattle.machine_bounded.specs.Within.{newest_is_bare, parts_from}
 use Rattle.packed.specs.Tight.{Tightened}
 use Rattle.regions.specs.Regions.{region_at}
 use Rattle.state_media.specs.declared.Piece.{Piece}
-use Rattle.state_media.specs.declared.Text.{Text}
-use Rattle.state_media.specs.declared.Text.TheVariants as T
 use Rattle.state_media.specs.declared.Span.{Span}
-use Rattle.state_media.specs.declared.Label.{Label}
-use Rattle.state_media.specs.declared.Label.TheVariants as L
 use Rattle.state_media.specs.declared.Destination.{Destination}
 use Rattle.state_media.specs.declared.Destination.TheVariants as D
 use Rattle.state_media.specs.declared.Media.{Media}
@@ -26,9 +23,9 @@ use Rattle.state_media.specs.declared.Links.{Links}
 abbrev pub span_is : Span → State.Span
 span_is p = record { from = p.from.0; to = p.to.0 }
 
-abbrev pub label_of : Label → Option State.Span
-label_of L.Unset = none
-label_of (L.Is p) = some (span_is p)
+abbrev pub label_of : CodeOption Span → Option State.Span
+label_of None = none
+label_of (Some p) = some (span_is p)
 
 -- below the end where it is not empty
 pub record PieceIs (region : List ℕ) (end : ℕ) (p : Piece) (b : List ℕ) : Type 0 where
@@ -37,11 +34,11 @@ pub record PieceIs (region : List ℕ) (end : ℕ) (p : Piece) (b : List ℕ) : 
   pub below : 0 < p.length → p.place + p.length ≤ end
   pub bytes : take p.length (drop p.place region) ≡ b
 
-abbrev pub TextIs : (region : List ℕ) → (end : ℕ) → Text → Option (List ℕ) → Type 0
-TextIs region end T.Unset none = Unit
-TextIs region end T.Unset (some b) = ⊥
-TextIs region end (T.Is p) none = ⊥
-TextIs region end (T.Is p) (some b) = PieceIs region end p b
+abbrev pub TextIs : (region : List ℕ) → (end : ℕ) → CodeOption Piece → Option (List ℕ) → Type 0
+TextIs region end None none = Unit
+TextIs region end None (some b) = ⊥
+TextIs region end (Some p) none = ⊥
+TextIs region end (Some p) (some b) = PieceIs region end p b
 
 abbrev pub DestinationIs : (region : List ℕ) → (end : ℕ) → Destination → State.Destination → Type 0
 DestinationIs region end D.Nowhere no_destination = Unit
@@ -138,7 +135,7 @@ abbrev pub no_media : Links
 no_media =
     record {
       images = record { bits = 0; count = 0 };
-      media = record { label_id = L.Unset; label = T.Unset; reference_id = L.Unset; destination = D.Nowhere; title = T.Unset };
+      media = record { label_id = None; label = None; reference_id = None; destination = D.Nowhere; title = None };
       end = 0;
-      setext = T.Unset;
+      setext = None;
     }

@@ -5,7 +5,7 @@
 ghost use Rattle.std.specs.Prelude.{true, ◌≡◌};
 ghost use Rattle.machine.specs.Media as M;
 ghost use Rattle.state_media.specs.Links.{no_media, Opens, Closes, IsImage, AnyOlderImage, Identifies, Empties, Leads, Stores, Holds, Releases};
-ghost use Rattle.state_media.specs.Private.{bare_media, length_of, with_label_id, with_label, with_reference_id, with_destination, with_title};
+ghost use Rattle.state_media.specs.Private.{bare_media, length_of, HeldBehind};
 
 use event::BytePlace;
 use packed::Tight;
@@ -17,12 +17,6 @@ pub struct Piece {
     pub length: usize,
 }
 
-#[derive(Clone, Copy)]
-pub enum Text {
-    Unset,
-    Is(Piece),
-}
-
 // A slice of the note's text.
 #[derive(Clone, Copy)]
 pub struct Span {
@@ -30,13 +24,7 @@ pub struct Span {
     pub to: BytePlace,
 }
 
-#[derive(Clone, Copy)]
-pub enum Label {
-    Unset,
-    Is(Span),
-}
-
-// Its own, that of the definition at an index, or none.
+// Its own, that of the definition at an index, or none: our own enum, since it has three answers.
 #[derive(Clone, Copy)]
 pub enum Destination {
     Nowhere,
@@ -46,11 +34,11 @@ pub enum Destination {
 
 #[derive(Clone, Copy)]
 pub struct Media {
-    pub label_id: Label,
-    pub label: Text,
-    pub reference_id: Label,
+    pub label_id: Option<Span>,
+    pub label: Option<Piece>,
+    pub reference_id: Option<Span>,
     pub destination: Destination,
-    pub title: Text,
+    pub title: Option<Piece>,
 }
 
 #[derive(Clone, Copy)]
@@ -61,7 +49,7 @@ pub struct Links {
     pub media: Media,
     // behind the held bytes
     pub end: usize,
-    pub setext: Text,
+    pub setext: Option<Piece>,
 }
 
 // Before the first event: nothing is open and nothing is held.
@@ -74,7 +62,7 @@ pub fn new() -> Links
         images,
         media,
         end: 0,
-        setext: Text::Unset,
+        setext: None,
     }
 }
 
@@ -82,21 +70,18 @@ fn bare() -> Media
     ensures { result ≡ bare_media }
 {
     Media {
-        label_id: Label::Unset,
-        label: Text::Unset,
-        reference_id: Label::Unset,
+        label_id: None,
+        label: None,
+        reference_id: None,
         destination: Destination::Nowhere,
-        title: Text::Unset,
+        title: None,
     }
 }
 
-fn length_of(t: Text) -> usize
+fn length_of(t: Option<Piece>) -> usize
     ensures { result ≡ length_of t }
 {
-    match t {
-        Text::Unset => 0,
-        Text::Is(p) => p.length,
-    }
+    t.map_or(0, |p| p.length)
 }
 
 // ---- opened and closed
@@ -106,7 +91,7 @@ pub fn open_media(l: Links, image: bool) -> Links
     ensures { Opens image l result }
 {
     let mut r = l;
-    r.images = packed::more(l.images, image);
+    r.images = l.images.more(image);
     r.media = bare();
     r
 }
@@ -116,7 +101,7 @@ pub fn close_media(l: Links) -> Links
     ensures { Closes l result }
 {
     let mut r = l;
-    r.images = packed::fewer(l.images);
+    r.images = l.images.fewer();
     r.media = bare();
     let setext = l.setext;
     r.end = length_of(setext);
@@ -126,104 +111,24 @@ pub fn close_media(l: Links) -> Links
 pub fn is_image(l: Links) -> bool
     ensures { IsImage l result }
 {
-    packed::newest(l.images)
+    l.images.newest()
 }
 
 // Whether an image is open around the newest one.
 pub fn in_image(l: Links) -> bool
     ensures { AnyOlderImage l result }
 {
-    let t = packed::fewer(l.images);
-    packed::any(t)
+    let t = l.images.fewer();
+    t.any()
 }
 
 // ---- what is known of the newest
-
-fn with_label_id(m: Media, x: Label) -> Media
-    ensures { result ≡ with_label_id x m }
-{
-    let label = m.label;
-    let reference_id = m.reference_id;
-    let destination = m.destination;
-    let title = m.title;
-    Media {
-        label_id: x,
-        label,
-        reference_id,
-        destination,
-        title,
-    }
-}
-
-fn with_label(m: Media, x: Text) -> Media
-    ensures { result ≡ with_label x m }
-{
-    let label_id = m.label_id;
-    let reference_id = m.reference_id;
-    let destination = m.destination;
-    let title = m.title;
-    Media {
-        label_id,
-        label: x,
-        reference_id,
-        destination,
-        title,
-    }
-}
-
-fn with_reference_id(m: Media, x: Label) -> Media
-    ensures { result ≡ with_reference_id x m }
-{
-    let label_id = m.label_id;
-    let label = m.label;
-    let destination = m.destination;
-    let title = m.title;
-    Media {
-        label_id,
-        label,
-        reference_id: x,
-        destination,
-        title,
-    }
-}
-
-fn with_destination(m: Media, x: Destination) -> Media
-    ensures { result ≡ with_destination x m }
-{
-    let label_id = m.label_id;
-    let label = m.label;
-    let reference_id = m.reference_id;
-    let title = m.title;
-    Media {
-        label_id,
-        label,
-        reference_id,
-        destination: x,
-        title,
-    }
-}
-
-fn with_title(m: Media, x: Text) -> Media
-    ensures { result ≡ with_title x m }
-{
-    let label_id = m.label_id;
-    let label = m.label;
-    let reference_id = m.reference_id;
-    let destination = m.destination;
-    Media {
-        label_id,
-        label,
-        reference_id,
-        destination,
-        title: x,
-    }
-}
 
 pub fn identify_label(l: Links, p: Span) -> Links
     ensures { Identifies M.label_id p l result }
 {
     let mut r = l;
-    r.media = with_label_id(l.media, Label::Is(p));
+    r.media.label_id = Some(p);
     r
 }
 
@@ -231,7 +136,7 @@ pub fn identify_reference(l: Links, p: Span) -> Links
     ensures { Identifies M.reference_id p l result }
 {
     let mut r = l;
-    r.media = with_reference_id(l.media, Label::Is(p));
+    r.media.reference_id = Some(p);
     r
 }
 
@@ -244,7 +149,7 @@ pub fn empty_destination(l: Links) -> Links
         place: 0,
         length: 0,
     };
-    r.media = with_destination(l.media, Destination::Own(p));
+    r.media.destination = Destination::Own(p);
     r
 }
 
@@ -253,48 +158,46 @@ pub fn lead_to(l: Links, k: usize) -> Links
     ensures { Leads k l result }
 {
     let mut r = l;
-    r.media = with_destination(l.media, Destination::Defined(k));
+    r.media.destination = Destination::Defined(k);
     r
 }
 
 // ---- what was captured: n of the work bytes, from a place on, are held
 
-pub fn store_label(l: Links, work: &mut [u8], from: usize, n: usize) -> Links
-    ensures { Stores M.label from n l work.old result work.new }
+// Behind all that is held. Their piece comes out beside the links.
+fn hold_behind(l: Links, work: &mut [u8], from: usize, n: usize) -> (Links, Piece)
+    ensures { HeldBehind from n l work.old result.0 result.1 work.new }
 {
     let mut r = l;
+    r.end = regions::carry(work, from, n, regions::HELD_AT, l.end);
     let p = Piece {
         place: l.end,
         length: n,
     };
-    r.end = regions::carry(work, from, n, regions::HELD_AT, l.end);
-    r.media = with_label(l.media, Text::Is(p));
+    (r, p)
+}
+
+pub fn store_label(l: Links, work: &mut [u8], from: usize, n: usize) -> Links
+    ensures { Stores M.label from n l work.old result work.new }
+{
+    let (mut r, p) = hold_behind(l, work, from, n);
+    r.media.label = Some(p);
     r
 }
 
 pub fn store_destination(l: Links, work: &mut [u8], from: usize, n: usize) -> Links
     ensures { Stores M.destination from n l work.old result work.new }
 {
-    let mut r = l;
-    let p = Piece {
-        place: l.end,
-        length: n,
-    };
-    r.end = regions::carry(work, from, n, regions::HELD_AT, l.end);
-    r.media = with_destination(l.media, Destination::Own(p));
+    let (mut r, p) = hold_behind(l, work, from, n);
+    r.media.destination = Destination::Own(p);
     r
 }
 
 pub fn store_title(l: Links, work: &mut [u8], from: usize, n: usize) -> Links
     ensures { Stores M.title from n l work.old result work.new }
 {
-    let mut r = l;
-    let p = Piece {
-        place: l.end,
-        length: n,
-    };
-    r.end = regions::carry(work, from, n, regions::HELD_AT, l.end);
-    r.media = with_title(l.media, Text::Is(p));
+    let (mut r, p) = hold_behind(l, work, from, n);
+    r.media.title = Some(p);
     r
 }
 
@@ -302,31 +205,22 @@ pub fn store_title(l: Links, work: &mut [u8], from: usize, n: usize) -> Links
 pub fn hold(l: Links, work: &mut [u8], from: usize, n: usize) -> Links
     ensures { Holds from n l work.old result work.new }
 {
+    let mut r = l;
     let p = Piece {
         place: 0,
         length: n,
     };
-    let end = regions::carry(work, from, n, regions::HELD_AT, 0);
-    let images = l.images;
-    let media = l.media;
-    Links {
-        images,
-        media,
-        end,
-        setext: Text::Is(p),
-    }
+    r.end = regions::carry(work, from, n, regions::HELD_AT, 0);
+    r.setext = Some(p);
+    r
 }
 
 // The heading's text waits no more.
 pub fn release(l: Links) -> Links
     ensures { Releases l result }
 {
-    let images = l.images;
-    let media = l.media;
-    Links {
-        images,
-        media,
-        end: 0,
-        setext: Text::Unset,
-    }
+    let mut r = l;
+    r.end = 0;
+    r.setext = None;
+    r
 }

@@ -92,12 +92,8 @@ fn shift_up(w: &mut [u8], from: usize, to: usize, n: usize)
     requires { (from ≤ to) × (to + n ≤ length w.old) }
     ensures { w.new ≡ fill w.old (from + n) (part w.old from to) }
 {
-    let mut k = to;
-    while from < k {
-        let j = k - 1;
-        let x = w[j];
-        w[j + n] = x;
-        k = j;
+    for k in (from..to).rev() {
+        w[k + n] = w[k];
     }
 }
 
@@ -109,12 +105,10 @@ fn pack(w: &mut [u8], at: usize, from: usize, to: usize, pipes: bool) -> usize
     ensures { Packed pipes w.old at from to w.new result }
 {
     let mut r = at;
-    let mut i = from;
-    while i < to {
+    for i in from..to {
         let gone = pipes & opens_pipe(w, i, to);
         let x = w[i];
         r = keep(w, r, x, gone);
-        i += 1;
     }
     r
 }
@@ -162,12 +156,10 @@ fn all_spaces(w: &[u8], from: usize, to: usize) -> bool
     requires { Within w.now from to }
     ensures { result ≡ all_spaces (part w.now from to) }
 {
-    let mut i = from;
-    while i < to {
+    for i in from..to {
         if w[i] != b' ' {
             return false;
         }
-        i += 1;
     }
     true
 }

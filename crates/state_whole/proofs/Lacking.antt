@@ -1,4 +1,5 @@
 -- The totals and the page, by the places behind them. Assumes nothing.
+use Rattle.std.specs.Prelude.{Option as CodeOption, Some, None}
 use mathlib.Core.Path.{◌≡◌, refl, ap}
 use mathlib.Core.List.{List, [], ◌∷◌}
 use Prim.Native.Nat.{ℕ, min, ◌+◌, ◌≤◌, ◌<◌}
@@ -14,7 +15,7 @@ use Rattle.state_whole.specs.declared.Whole.{Whole}
 use Rattle.state_whole.specs.Whole.{World, Mirrors}
 use Rattle.state_whole.proofs.Parts.{front_long}
 use Rattle.state_whole.specs.declared.Shortage.{Shortage}
-use Rattle.state_whole.specs.declared.Shortage.TheVariants.{Nothing, WorkFull, PageFull}
+use Rattle.state_whole.specs.declared.Shortage.TheVariants as S
 use Rattle.state_whole.specs.Lacking.{refusal_of, Lacks}
 
 flat-long : (cs : List (List ℕ)) → length (flat cs) ≡ sizes cs
@@ -38,28 +39,28 @@ placed text b w s room h y =
     record { captures = omega arith; held-is = y.links.end; kept-is = y.kept.end; page = omega arith }
 
 module _ {b : Whole} {room : ℕ} where
-  lacking : (r : Shortage) → ((s : State) → Places b room s → over room s ≡ refusal_of r) → Lacks b room r
+  lacking : (r : CodeOption Shortage) → ((s : State) → Places b room s → over room s ≡ refusal_of r) → Lacks b room r
   lacking r k = record { lacks = λ text w s h y. k s (placed text b w s room h y) }
 
-  pub captures-lack : region_size < b.context.buffers.end → Lacks b room WorkFull
+  pub captures-lack : region_size < b.context.buffers.end → Lacks b room (Some S.Work)
   unfolding over
-  captures-lack h = lacking WorkFull (λ s p. (let e = p.captures in rw (lt-ltb most_total (captured s) (omega arith))))
+  captures-lack h = lacking (Some S.Work) (λ s p. (let e = p.captures in rw (lt-ltb most_total (captured s) (omega arith))))
 
-  pub held-lacks : b.context.buffers.end ≤ region_size → region_size < b.links.end → Lacks b room WorkFull
+  pub held-lacks : b.context.buffers.end ≤ region_size → region_size < b.links.end → Lacks b room (Some S.Work)
   unfolding over
-  held-lacks g h = lacking WorkFull (λ s p. (let d = p.captures in let e = p.held-is in rw (le-ltb most_total (captured s) (omega arith), lt-ltb most_total (held s) (omega arith))))
+  held-lacks g h = lacking (Some S.Work) (λ s p. (let d = p.captures in let e = p.held-is in rw (le-ltb most_total (captured s) (omega arith), lt-ltb most_total (held s) (omega arith))))
 
-  pub kept-lacks : b.context.buffers.end ≤ region_size → b.links.end ≤ region_size → region_size < b.kept.end → Lacks b room WorkFull
+  pub kept-lacks : b.context.buffers.end ≤ region_size → b.links.end ≤ region_size → region_size < b.kept.end → Lacks b room (Some S.Work)
   unfolding over
-  kept-lacks f g h = lacking WorkFull (λ s p. (let c = p.captures in let d = p.held-is in let e = p.kept-is in rw (le-ltb most_total (captured s) (omega arith), le-ltb most_total (held s) (omega arith), lt-ltb most_total (kept s) (omega arith))))
+  kept-lacks f g h = lacking (Some S.Work) (λ s p. (let c = p.captures in let d = p.held-is in let e = p.kept-is in rw (le-ltb most_total (captured s) (omega arith), le-ltb most_total (held s) (omega arith), lt-ltb most_total (kept s) (omega arith))))
 
   module _ (f : b.context.buffers.end ≤ region_size) (g : b.links.end ≤ region_size) (h : b.kept.end ≤ region_size) where
-    pub page-lacks : room < b.context.buffers.page → Lacks b room PageFull
+    pub page-lacks : room < b.context.buffers.page → Lacks b room (Some S.Page)
     unfolding over
-    page-lacks k = lacking PageFull (λ s p. (let c = p.captures in let d = p.held-is in let e = p.kept-is in let q = p.page in
+    page-lacks k = lacking (Some S.Page) (λ s p. (let c = p.captures in let d = p.held-is in let e = p.kept-is in let q = p.page in
         rw (le-ltb most_total (captured s) (omega arith), le-ltb most_total (held s) (omega arith), le-ltb most_total (kept s) (omega arith), lt-ltb room (length s.page) (omega arith))))
 
-    pub none-lacks : b.context.buffers.page ≤ room → Lacks b room Nothing
+    pub none-lacks : b.context.buffers.page ≤ room → Lacks b room None
     unfolding over
-    none-lacks k = lacking Nothing (λ s p. (let c = p.captures in let d = p.held-is in let e = p.kept-is in let q = p.page in
+    none-lacks k = lacking None (λ s p. (let c = p.captures in let d = p.held-is in let e = p.kept-is in let q = p.page in
         rw (le-ltb most_total (captured s) (omega arith), le-ltb most_total (held s) (omega arith), le-ltb most_total (kept s) (omega arith), le-ltb room (length s.page) (omega arith))))

@@ -1,4 +1,5 @@
 -- Bytes that are held or kept, written; a setext heading's text held and released; whether an image is open around. Assumes nothing.
+use Rattle.std.specs.Prelude.{Option as CodeOption, Some, None}
 use mathlib.Core.Path.{◌≡◌, refl, sym, ap, ◌∙◌}
 use mathlib.Core.Bool.{Bool, true, false}
 use mathlib.Core.List.{List, [], ◌∷◌}
@@ -32,8 +33,6 @@ use Rattle.state_context.specs.Rel.{Rel, Any, Sets}
 use Rattle.state_context.proofs.Laws.{with_buffers, pushing}
 use Rattle.state_media.specs.declared.Links.{Links}
 use Rattle.state_media.specs.declared.Piece.{Piece}
-use Rattle.state_media.specs.declared.Text.{Text}
-use Rattle.state_media.specs.declared.Text.TheVariants as T
 use Rattle.state_media.specs.Links.{Linked, PieceIs, TextIs, Holds, Releases, AnyOlderImage}
 use Rattle.state_kept.specs.Kept.{InTables}
 use Rattle.state_whole.specs.declared.Whole.{Whole}
@@ -102,8 +101,8 @@ holds {b = b} {work = work} {starts = starts} {work' = work'} {l = l} k drops n 
 }
 
 -- it is there, in a piece of the held bytes
-setext-there : (region : List ℕ) (end : ℕ) (t : Text) (o : Option (List ℕ)) (u : State) (f : List ℕ → Outcome State) → TextIs region end t o → (need o >>= f) ≡ go u → (p : Piece) × (c : List ℕ) × (t ≡ T.Is p) × (o ≡ some c) × PieceIs region end p c × (f c ≡ go u)
-setext-there region end T.Unset none u f x q = never q
-setext-there region end T.Unset (some c) u f x q = absurd x
-setext-there region end (T.Is p) none u f x q = absurd x
-setext-there region end (T.Is p) (some c) u f x q = (p, c, refl, refl, x, q)
+setext-there : (region : List ℕ) (end : ℕ) (t : CodeOption Piece) (o : Option (List ℕ)) (u : State) (f : List ℕ → Outcome State) → TextIs region end t o → (need o >>= f) ≡ go u → (p : Piece) × (c : List ℕ) × (t ≡ Some p) × (o ≡ some c) × PieceIs region end p c × (f c ≡ go u)
+setext-there region end None none u f x q = never q
+setext-there region end None (some c) u f x q = absurd x
+setext-there region end (Some p) none u f x q = absurd x
+setext-there region end (Some p) (some c) u f x q = (p, c, refl, refl, x, q)

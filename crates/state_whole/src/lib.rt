@@ -14,33 +14,32 @@ pub struct Whole {
     pub kept: Kept,
 }
 
-// What lacks room after an event: nothing; the work bytes, refusal 8; else the output, 9.
+// What may have no room after an event: the work bytes, refusal 8, or the output, 9.
 #[derive(Clone, Copy)]
 pub enum Shortage {
-    Nothing,
-    WorkFull,
-    PageFull,
+    Work,
+    Page,
 }
 
-// 8 before 9.
-pub fn lack(b: Whole, room: usize) -> Shortage
+// What lacks room: 8 before 9.
+pub fn lack(b: Whole, room: usize) -> Option<Shortage>
     ensures { Lacks b room result }
 {
     let c = b.context;
     let captures = c.buffers;
     if regions::SIZE < captures.end {
-        return Shortage::WorkFull;
+        return Some(Shortage::Work);
     }
     let held = b.links;
     if regions::SIZE < held.end {
-        return Shortage::WorkFull;
+        return Some(Shortage::Work);
     }
     let kept = b.kept;
     if regions::SIZE < kept.end {
-        return Shortage::WorkFull;
+        return Some(Shortage::Work);
     }
     if room < captures.page {
-        return Shortage::PageFull;
+        return Some(Shortage::Page);
     }
-    Shortage::Nothing
+    None
 }

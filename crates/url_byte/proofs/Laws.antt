@@ -1,20 +1,11 @@
 -- What the code of `url_byte` goes by. Assumes nothing.
-use mathlib.Core.Path.{◌≡◌, refl, sym, ap, ◌∙◌}
-use mathlib.Core.Bool.{Bool, true, false, not, ◌&&◌, ◌||◌}
-use mathlib.Core.Logic.{◌⊎◌, inl, inr}
-use mathlib.Core.List.{List, [], ◌∷◌, append-nil}
-use Prim.Native.Nat.{ℕ, ◌+◌, ◌-◌, ◌/◌, ◌%◌, ◌≤◌, ◌<◌}
+use Rattle.std.proofs.Common.{◌≡◌, refl, sym, ap, ◌∙◌, Bool, true, false, not, ◌&&◌, ◌||◌, ◌⊎◌, inl, inr, List, [], ◌∷◌, append-nil, ℕ, ◌+◌, ◌-◌, ◌/◌, ◌%◌, ◌≤◌, ◌<◌, arith, leb-true, le-leb, lt-ltb, le-ltb, eqb-true, ne_eqb, eqb, leb, length, drop, get_or, set, length-drop, length-set, take, take_all, w8, Fits}
 use native.Mathlib.Decide.{dec_lt, ℕ_discrete}
-use native.Mathlib.Omega.{arith}
-use borrow.Author.Tests.{leb-true, le-leb, lt-leb, lt-ltb, le-ltb, eqb-true, ne_eqb, eqb-false, not-true, not-false}
-use lib.Dec.{eqb, leb}
-use lib.ListN.{length, drop, get_or, set, length-drop, length-set}
-use mir.Syntax.{w8}
-use mir.Val.{Fits}
+use borrow.Author.Tests.{lt-leb, eqb-false, not-true, not-false}
 use Rattle.lent.specs.Bytes.{has_bit, is_alnum, between}
 use Rattle.lent.specs.Fill.{Filled}
 use Rattle.lent.proofs.Computed.{agree}
-use Rattle.lent.proofs.Laws.{next, both, put_in, and_left, and_right, or_left, or_right}
+use Rattle.lent.proofs.Laws.{next, and_left, and_right, or_left, or_right}
 use Rattle.encode_byte.specs.declared.Escaping.{Escaping}
 use Rattle.encode_byte.specs.Byte.{encode_byte}
 use Rattle.encode_byte.proofs.Laws.{kept}
@@ -24,30 +15,28 @@ use Rattle.url_byte.specs.Private.{byte_of, kept_mask}
 
 -- ---- which bytes stay
 
-lone : (s : List ℕ) → length s < 2 → false ≡ two_alnum s
+pub two-short : (s : List ℕ) → length s < 2 → false ≡ two_alnum s
 unfolding two_alnum
-lone [] h = refl
-lone (a ∷ []) h = refl
-lone (a ∷ b ∷ s) h = absurd (omega arith)
+two-short [] h = refl
+two-short (a ∷ []) h = refl
+two-short (a ∷ b ∷ s) h = absurd (omega arith)
 
-pub two-short : (i : ℕ) (l : List ℕ) → length l - i < 2 → false ≡ two_alnum (drop i l)
-two-short i l h = lone (drop i l) (rw length-drop h)
+pub two-there : (s : List ℕ) (x y : Bool) → 2 ≤ length s → x ≡ is_alnum (get_or s 0 0) → y ≡ is_alnum (get_or s 1 0) → (x && y) ≡ two_alnum s
+unfolding two_alnum
+two-there [] x y h p q = absurd (omega arith)
+two-there (a ∷ []) x y h p q = absurd (omega arith)
+two-there (a ∷ b ∷ s) x y h p q = rw (p, q)
 
-module _ (i : ℕ) (l : List ℕ) where
-  pub two-there : (x y : Bool) → 2 ≤ length l - i → x ≡ is_alnum (get_or l i 0) → y ≡ is_alnum (get_or l (i + 1) 0) → (x && y) ≡ two_alnum (drop i l)
-  unfolding two_alnum
-  two-there x y h p q =
-      let h₁ : i < length l = omega arith in
-      let h₂ : i + 1 < length l = omega arith in
-      rw (next l i h₁, next l (i + 1) h₂, p, q)
-
-  pub stays-percent : (x : Bool) → i < length l → get_or l i 0 ≡ 37 → x ≡ two_alnum (drop (i + 1) l) → x ≡ stays (drop i l)
+module _ (l : List ℕ) (i : ℕ) (x : Bool) (h : i < length l) where
+  pub stays-percent : get_or l i 0 ≡ 37 → x ≡ two_alnum (take (length l - (i + 1)) (drop (i + 1) l)) → x ≡ stays (drop i l)
   unfolding stays
-  stays-percent x h p q = rw (next l i h, p) q
+  stays-percent p q =
+      let e : take (length l - (i + 1)) (drop (i + 1) l) ≡ drop (i + 1) l = take_all (length l - (i + 1)) (drop (i + 1) l) (rw length-drop (omega arith)) in
+      rw (next l i h, p) (rw e at q)
 
-  pub stays-other : (x : Bool) → i < length l → (get_or l i 0 ≡ 37 → ⊥) → x ≡ is_kept (get_or l i 0) → x ≡ stays (drop i l)
+  pub stays-other : (get_or l i 0 ≡ 37 → ⊥) → x ≡ is_kept (get_or l i 0) → x ≡ stays (drop i l)
   unfolding stays
-  stays-other x h p q = rw (next l i h, ne_eqb (get_or l i 0) 37 p) q
+  stays-other p q = rw (next l i h, ne_eqb (get_or l i 0) 37 p) q
 
 -- ---- one byte
 
@@ -59,11 +48,6 @@ module _ (n : ℕ) where
   pub hex-high : 10 ≤ n → 55 + n ≡ hex_upper n
   unfolding hex_upper
   hex-high h = rw (le-ltb n 10 h)
-
-pub percent-put : {d e f g : List ℕ} {at m n r : ℕ} (b x y : ℕ) → x ≡ hex_upper (b / 16) → y ≡ hex_upper (b % 16)
-    → Filled d at (37 ∷ []) e m → Filled e m (x ∷ []) f n → Filled f n (y ∷ []) g r → Filled d at (percent b) g r
-unfolding percent
-percent-put b x y p q h₁ h₂ h₃ = rw (← p, ← q) (both h₁ (both h₂ h₃))
 
 digit : (on : Escaping) (n : ℕ) → n < 16 → encode_byte on (hex_upper n) ≡ hex_upper n ∷ []
 digit on n h =
@@ -117,16 +101,6 @@ module _ (on : Escaping) (l : List ℕ) (i : ℕ) (x : Bool) (h : i < length l) 
         let k = left_alone on b (stays-case b (drop (i + 1) l) staying) (eqb-false b 38 (or_left (eqb b 38) (eqb b 39) n)) (eqb-false b 39 (or_right (eqb b 38) (eqb b 39) n)) in
         quoted-byte ∙ k
 
--- three bytes at once, where there is room
-pub percent-in : (d : List ℕ) (at b x y : ℕ) → x ≡ hex_upper (b / 16) → y ≡ hex_upper (b % 16) → 3 ≤ length d - at
-    → Filled d at (percent b) (set (set (set d at 37) (at + 1) x) (at + 2) y) (at + 3)
-percent-in d at b x y p q h =
-    let l = length-set d at 37 in
-    let m = length-set (set d at 37) (at + 1) x in
-    let z : at + 1 + 1 ≡ at + 2 = omega arith in
-    let w : at + 2 + 1 ≡ at + 3 = omega arith in
-    percent-put b x y p q (put_in d at 37 (omega arith)) (rw z at (put_in (set d at 37) (at + 1) x (omega arith))) (rw w at (put_in (set (set d at 37) (at + 1) x) (at + 2) y (omega arith)))
-
 -- a byte with a mark: &, ' or another
 module _ (on : Escaping) (b : ℕ) where
   pub marked-quoted : (eqb b 38 || eqb b 39) ≡ true → encode_of on (url_byte (between 38 39 b) b) ≡ encode_byte on b
@@ -165,16 +139,3 @@ unfolding kept_mask
 by_mask b m x f p q =
     let k = agree (λ c. has_bit (kept_mask c) (c % 64)) is_kept 256 tt b f.fits in
     q ∙ rw p k
-
-module _ (b : ℕ) where
-  pub mask_low : b < 64 → 0xafffffda00000000 ≡ kept_mask b
-  unfolding kept_mask
-  mask_low h = rw (lt-ltb b 64 h)
-
-  pub mask-high : 64 ≤ b → b < 128 → 0x47fffffe87ffffff ≡ kept_mask b
-  unfolding kept_mask
-  mask-high h k = rw (le-ltb b 64 h, lt-ltb b 128 k)
-
-  pub mask-none : 64 ≤ b → 128 ≤ b → 0 ≡ kept_mask b
-  unfolding kept_mask
-  mask-none h k = rw (le-ltb b 64 h, le-ltb b 128 k)

@@ -1,15 +1,8 @@
 -- What a byte's mark says: without one the byte stays and HTML leaves it alone, with one only & and ' stay. Assumes nothing.
-use Rattle.std.specs.Prelude.{if◌then◌else◌}
-use mathlib.Core.Path.{◌≡◌, refl, sym, ap, ◌∙◌}
-use mathlib.Core.Bool.{Bool, true, false, not, ◌&&◌, ◌||◌}
-use mathlib.Core.Logic.{◌⊎◌, inl, inr}
-use mathlib.Core.List.{List, [], ◌∷◌}
-use Prim.Native.Nat.{ℕ, ◌≤◌}
+use Rattle.std.proofs.Common.{if◌then◌else◌, ◌≡◌, refl, sym, ap, ◌∙◌, Bool, true, false, not, ◌&&◌, ◌||◌, ◌⊎◌, inl, inr, List, [], ◌∷◌, ℕ, ◌≤◌, arith, leb-true, le-leb, eqb-true, ne_eqb, leb, eqb, get_or}
 use native.Mathlib.Decide.{dec_lt, ℕ_discrete}
-use native.Mathlib.Omega.{arith}
-use borrow.Author.Tests.{leb-true, le-leb, lt-leb, eqb-true, ne_eqb, not-true, not-false}
-use lib.Dec.{leb, eqb}
-use lib.ListN.{get_or}
+use borrow.Author.Tests.{lt-leb, not-true, not-false}
+use mir.Val.{bool_byte}
 use Rattle.lent.specs.Bytes.{is_alnum, between}
 use Rattle.lent.proofs.Laws.{and_left, and_right}
 use Rattle.encode_byte.specs.declared.Escaping.{Escaping}
@@ -147,11 +140,10 @@ still-moved b c d p = rw p
 
 -- ---- the code's own cases
 
-module _ (b c d : ℕ) (x y z : Bool) (p : x ≡ is_apart b) (q : y ≡ is_alnum c) (r : z ≡ is_alnum d) where
-  pub mark_set : (x && not (eqb b 37 && (y && z))) ≡ true → 1 ≡ mark_of b c d
-  unfolding mark_of
-  mark_set h = rw (rw (p, q, r) at h)
+flag : (x : Bool) → bool_byte x ≡ (if x then 1 else 0)
+flag true = refl
+flag false = refl
 
-  pub mark-clear : (x && not (eqb b 37 && (y && z))) ≡ false → 0 ≡ mark_of b c d
-  unfolding mark_of
-  mark-clear h = rw (rw (p, q, r) at h)
+pub mark-set : (b c d : ℕ) (x y z : Bool) → x ≡ is_apart b → y ≡ is_alnum c → z ≡ is_alnum d → bool_byte (x && not (eqb b 37 && (y && z))) ≡ mark_of b c d
+unfolding mark_of
+mark-set b c d x y z p q r = rw (p, q, r) (flag (is_apart b && not (eqb b 37 && (is_alnum c && is_alnum d))))

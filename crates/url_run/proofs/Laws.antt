@@ -1,15 +1,7 @@
 -- What the code of `url_run` goes by: the two tests of many bytes, their marks, and eight marks in a word. Assumes nothing.
-use mathlib.Core.Path.{◌≡◌, refl, sym, ap, ◌∙◌}
-use mathlib.Core.Bool.{Bool, true, false, not, ◌||◌}
-use mathlib.Core.Logic.{◌⊎◌, inl, inr}
-use mathlib.Core.List.{List, [], ◌∷◌, ◌++◌}
-use Prim.Native.Nat.{ℕ, zero, suc, ◌+◌, ◌*◌, ◌≤◌, ◌<◌}
-use native.Mathlib.Omega.{arith}
-use native.Mathlib.Numerals.{add-one}
-use borrow.Author.Tests.{leb-true, le-leb, not-true, not-false}
-use lib.Dec.{leb, eqb}
-use lib.ListN.{length, take, drop, set, get_or, drop_of_length-le}
-use lib.Seq.{take-suc-set, take_all, get_or-drop}
+use Rattle.std.proofs.Common.{◌≡◌, refl, sym, ap, ◌∙◌, ◌-◌, Bool, true, false, not, ◌||◌, ◌⊎◌, inl, inr, List, [], ◌∷◌, ◌++◌, ℕ, zero, suc, ◌+◌, ◌*◌, ◌≤◌, ◌<◌, arith, add-one, leb-true, le-leb, leb, eqb, length, take, drop, set, get_or, drop_of_length-le, take-suc-set, get_or-drop, w64}
+use borrow.Author.Tests.{not-true, not-false}
+use Rattle.std.specs.Int.{from_le_bytes}
 use Rattle.lent.specs.Bytes.{any, between}
 use Rattle.lent.proofs.Laws.{next, and_left, and_right, or_left, or_right}
 use Rattle.url_byte.specs.Private.{is_apart, mark_of}
@@ -53,12 +45,15 @@ any-odd : (s : List ℕ) → any is_odd s ≡ false → any is_apart s ≡ false
 any-odd [] h = refl
 any-odd (b ∷ s) h = rw (not-true (is_apart b) (passed b (or_left (is_odd b) (any is_odd s) h))) (any-odd s (or_right (is_odd b) (any is_odd s) h))
 
-module _ (s : List ℕ) (x : Bool) where
-  pub cheap : x ≡ any is_odd s → not x ≡ true → true ≡ true → any is_apart s ≡ false
-  cheap p q r = any-odd s (sym p ∙ not-true x q)
+module _ (l : List ℕ) (i : ℕ) (x : Bool) where
+  window : take (i + 64 - i) (drop i l) ≡ take 64 (drop i l)
+  window = let e : i + 64 - i ≡ 64 = omega arith in rw e
 
-  pub exact : x ≡ any is_apart s → not x ≡ true → any is_apart s ≡ false
-  exact p q = sym p ∙ not-true x q
+  pub cheap : x ≡ any is_odd (take (i + 64 - i) (drop i l)) → x ≡ false → true ≡ true → any is_apart (take 64 (drop i l)) ≡ false
+  cheap p q r = any-odd (take 64 (drop i l)) (sym (rw window at p) ∙ q)
+
+  pub exact : x ≡ any is_apart (take (i + 64 - i) (drop i l)) → not x ≡ true → any is_apart (take 64 (drop i l)) ≡ false
+  exact p q = sym (rw window at p) ∙ not-true x q
 
 -- ---- the marks, one by one
 
@@ -81,16 +76,6 @@ module _ (l : List ℕ) (i k : ℕ) (ms : List ℕ) where
       let e : v ≡ mark_of (get_or (drop i l) k 0) (get_or (drop i l) (k + 1) 0) (get_or (drop i l) (k + 2) 0) = rw (get_or-drop i l k 0, get_or-drop i l (k + 1) 0, get_or-drop i l (k + 2) 0, b, c) p in
       rw (add-one, take-suc-set ms k v h, marks-more k (drop i l), q, e)
 
-  pub mark-none : take 0 ms ≡ marks_of 0 (drop i l)
-  unfolding marks_of
-  mark-none = refl
-
-  pub mark-end : (n : ℕ) → length ms ≤ k → k ≤ n → length ms ≡ n → take k ms ≡ marks_of k (drop i l) → ms ≡ marks_of n (drop i l)
-  mark-end n h m p q =
-      let e : k ≡ n = omega arith in
-      let z : take k ms ≡ ms = take_all k ms h in
-      sym z ∙ q ∙ rw e
-
 -- ---- a word
 
 word_next : (l : List ℕ) (i : ℕ) → i < length l → word_of (drop i l) ≡ get_or l i 0 + word_of (drop (i + 1) l) * 256
@@ -101,23 +86,8 @@ word_none : (l : List ℕ) (i : ℕ) → length l ≤ i → word_of (drop i l) �
 unfolding word_of
 word_none l i h = rw (drop_of_length-le l h)
 
-module _ (l : List ℕ) (j : ℕ) (h : j + 4 ≤ length l) where
-  pub half_of : (w x y z : ℕ) → w ≡ get_or l j 0 → x ≡ get_or l (j + 1) 0 → y ≡ get_or l (j + 2) 0 → z ≡ get_or l (j + 3) 0
-      → w + 256 * (x + 256 * (y + 256 * z)) ≡ word_of (take 4 (drop j l))
-  unfolding word_of
-  half_of w x y z p q r s =
-      let a : j + 1 + 1 ≡ j + 2 = omega arith in
-      let b : j + 2 + 1 ≡ j + 3 = omega arith in
-      let m : j < length l = omega arith in
-      let n : j + 1 < length l = omega arith in
-      let o : j + 2 < length l = omega arith in
-      let u : j + 3 < length l = omega arith in
-      rw (next l j m, next l (j + 1) n, a, next l (j + 2) o, b, next l (j + 3) u) (omega arith)
-
-pub word-of : (l : List ℕ) (x y : ℕ) → length l ≡ 8 → x ≡ word_of (take 4 (drop 0 l)) → y ≡ word_of (take 4 (drop 4 l)) → x + 0x100000000 * y ≡ word_of l
-word-of l x y h p q =
-    let low = half_of l 0 (omega arith) (get_or l 0 0) (get_or l 1 0) (get_or l 2 0) (get_or l 3 0) refl refl refl refl in
-    let high = half_of l 4 (omega arith) (get_or l 4 0) (get_or l 5 0) (get_or l 6 0) (get_or l 7 0) refl refl refl refl in
+pub word-of : (l : List ℕ) (x : ℕ) → length l ≡ 8 → x ≡ from_le_bytes w64 l → x ≡ word_of l
+word-of l x h p =
     let a = word_next l 0 (omega arith) in
     let b = word_next l 1 (omega arith) in
     let c = word_next l 2 (omega arith) in

@@ -1,17 +1,7 @@
 -- The run before the first mark, and the marks behind it: what the lowest bit of a word says. Assumes nothing.
-use Rattle.std.specs.Prelude.{if◌then◌else◌}
-use mathlib.Core.Path.{◌≡◌, refl, sym, ap, ◌∙◌}
-use mathlib.Core.Bool.{Bool, true, false, not, ◌&&◌}
-use mathlib.Core.Logic.{◌⊎◌, inl, inr}
-use mathlib.Core.List.{List}
-use Prim.Native.Nat.{ℕ, zero, suc, ◌+◌, ◌-◌, ◌*◌, ◌/◌, ◌%◌, ◌^◌, ◌≤◌, ◌<◌}
-use native.Mathlib.Nat.{mul-div-mul_right, div-one}
-use native.Mathlib.Omega.{arith}
+use Rattle.std.proofs.Common.{if◌then◌else◌, ◌≡◌, refl, sym, ap, ◌∙◌, Bool, true, false, not, ◌&&◌, ◌⊎◌, inl, inr, List, ℕ, zero, suc, ◌+◌, ◌-◌, ◌*◌, ◌/◌, ◌%◌, ◌^◌, ◌≤◌, ◌<◌, div-one, arith, eqb, take, drop, get_or, pow-add, drop-drop}
+use native.Mathlib.Nat.{mul-div-mul_right}
 use lib.Count.{count_trailing_zeros, trailing_of_zero}
-use lib.Dec.{eqb}
-use lib.ListN.{take, drop, get_or}
-use lib.Pow.{pow-add}
-use lib.Seq.{drop-drop}
 use Rattle.lent.specs.Bytes.{is_alnum}
 use Rattle.lent.specs.Fill.{zeros}
 use Rattle.url_byte.specs.Private.{is_apart, mark_of}

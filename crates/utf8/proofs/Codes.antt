@@ -1,15 +1,6 @@
 -- The codes of characters, by how many tails follow the first byte: numbers alone. Assumes nothing.
-use mathlib.Core.Path.{◌≡◌, refl}
-use mathlib.Core.Logic.{◌⊎◌, inl, inr, ⊎_elim}
-use mathlib.Core.Bool.{Bool, true, false, ◌&&◌, ◌||◌}
-use mathlib.Core.List.{List, [], ◌∷◌}
-use Prim.Native.Nat.{ℕ, zero, suc, ◌+◌, ◌*◌, ◌/◌, ◌≤◌, ◌<◌}
-use native.Mathlib.Nat.{lt_of_not-le}
-use native.Mathlib.Decide.{dec_le}
-use native.Mathlib.Omega.{arith}
-use borrow.Author.Tests.{lt-ltb, le-ltb, le-leb, ltb-true}
-use lib.Dec.{T, leb, ltb, leb→le, ltb→lt}
-use lib.ListN.{get_or}
+use Rattle.std.proofs.Common.{◌≡◌, refl, ◌⊎◌, inl, inr, ⊎_elim, Bool, true, false, ◌&&◌, ◌||◌, List, [], ◌∷◌, ℕ, zero, suc, ◌+◌, ◌*◌, ◌/◌, ◌≤◌, ◌<◌, lt_of_not-le, arith, lt-ltb, le-ltb, le-leb, ltb-true, T, leb, ltb, leb→le, ltb→lt, get_or}
+use Rattle.std.proofs.Math.Decide.{dec_le}
 use Rattle.lent.specs.Bytes.{between}
 use Rattle.utf8.specs.Utf8.{is_scalar, tail, char_of}
 use Rattle.lent.proofs.Computed.{and_left, and_right, within, from, to}

@@ -1,17 +1,8 @@
 -- The laws of UTF-8, each over the length: what other crates cite. Assumes nothing.
-use mathlib.Core.Path.{◌≡◌, refl, sym, ◌∙◌}
-use mathlib.Core.Bool.{false}
-use mathlib.Core.Logic.{◌↔◌}
-use mathlib.Core.List.{List, [], ◌∷◌, ◌++◌}
-use Prim.Native.Nat.{ℕ, zero, suc, ◌+◌, ◌-◌, ◌≤◌, ◌<◌}
-use native.Mathlib.Nat.{lt_of_not-le}
-use native.Mathlib.Decide.{dec_le}
-use native.Mathlib.Omega.{arith}
-use native.Mathlib.Numerals.{add-one}
-use borrow.Author.Tests.{lt-ltb, le-ltb, lt-leb}
-use lib.Dec.{T, ltb→lt, leb-suc-suc}
-use lib.ListN.{length, take, drop, get_or, take-append-drop}
-use lib.Seq.{take-add, take-suc}
+use Rattle.std.proofs.Common.{◌≡◌, refl, sym, ◌∙◌, false, ◌↔◌, List, [], ◌∷◌, ◌++◌, ℕ, zero, suc, ◌+◌, ◌-◌, ◌≤◌, ◌<◌, lt_of_not-le, arith, add-one, lt-ltb, le-ltb, T, ltb→lt, length, take, drop, get_or, take-append-drop, take-add, take-suc}
+use Rattle.std.proofs.Math.Decide.{dec_le}
+use borrow.Author.Tests.{lt-leb}
+use Rattle.std.proofs.Math.Dec.{leb-suc-suc}
 use Rattle.lent.specs.Bytes.{all, each}
 use Rattle.utf8.specs.declared.Due.{Due}
 use Rattle.utf8.specs.declared.Due.TheVariants.{First, More, Wrong}

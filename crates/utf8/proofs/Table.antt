@@ -1,16 +1,10 @@
 -- What is read off a first byte, each rule one test computed over the bytes, and what any other byte leaves due. Assumes nothing.
 use Rattle.std.specs.Prelude.{if◌then◌else◌}
-use mathlib.Core.Path.{◌≡◌, refl, sym, ap, ◌∙◌}
-use mathlib.Core.Bool.{Bool, true, false, ◌&&◌, ◌||◌, and-false}
-use mathlib.Core.List.{[], ◌∷◌}
-use Prim.Native.Nat.{ℕ, suc, suc-le-suc, ◌+◌, ◌-◌, ◌≤◌, ◌<◌}
-use native.Mathlib.Omega.{arith}
-use native.Mathlib.Nat.{lt_of_not-le}
-use native.Mathlib.Decide.{dec_le}
-use borrow.Author.Tests.{lt-ltb, le-ltb, ne_eqb, lt-leb, le-leb}
+use Rattle.std.proofs.Common.{◌≡◌, refl, sym, ap, ◌∙◌, Bool, true, false, ◌&&◌, ◌||◌, [], ◌∷◌, ℕ, suc, suc-le-suc, ◌+◌, ◌-◌, ◌≤◌, ◌<◌, arith, lt_of_not-le, lt-ltb, le-ltb, ne_eqb, le-leb, T, eqb, leb, ltb, eqb→eq, get_or}
+use Rattle.std.proofs.Math.Bool.{and-false}
+use Rattle.std.proofs.Math.Decide.{dec_le}
+use borrow.Author.Tests.{lt-leb}
 use lib.Count.{count_leading_zeros}
-use lib.Dec.{T, eqb, leb, ltb, eqb→eq}
-use lib.ListN.{get_or}
 use mir.Syntax.{w8}
 use mir.Val.{Fits}
 use Rattle.lent.specs.Bytes.{between}

@@ -1,16 +1,8 @@
 -- The code's own cases: the walk over a text, by blocks of ASCII bytes and byte by byte. Assumes nothing.
-use mathlib.Core.Path.{◌≡◌, refl, ◌∙◌}
-use mathlib.Core.Bool.{Bool, true, false}
-use mathlib.Core.List.{List, [], ◌∷◌}
-use Prim.Native.Nat.{ℕ, zero, suc, ◌+◌, ◌-◌, ◌≤◌, ◌<◌}
-use native.Mathlib.Nat.{le_trans, le_refl, add-zero}
-use native.Mathlib.Omega.{arith}
-use native.Mathlib.Numerals.{add-one}
-use borrow.Author.Tests.{lt-ltb, le-ltb, lt-leb, le-leb, ltb-true}
-use lib.Bits.{bit_or, or_add_and, and_le_l, and_le_r}
-use lib.Dec.{ltb, leb}
-use lib.ListN.{length, take, drop, get_or, length-drop, drop_of_length-le}
-use lib.Seq.{drop-cons, drop-drop}
+use Rattle.std.specs.Prelude.{if◌then◌else◌}
+use Rattle.std.proofs.Common.{◌≡◌, refl, ◌∙◌, Bool, true, false, List, [], ◌∷◌, ℕ, zero, suc, ◌+◌, ◌-◌, ◌≤◌, ◌<◌, le_trans, le_refl, arith, add-one, lt-ltb, le-ltb, le-leb, ltb-true, bit_or, ltb, leb, length, take, drop, get_or, length-drop, drop_of_length-le, drop-cons, drop-drop}
+use borrow.Author.Tests.{lt-leb}
+use lib.Bits.{or_add_and, and_le_l, and_le_r}
 use Rattle.utf8.specs.declared.Due.{Due}
 use Rattle.utf8.specs.declared.Due.TheVariants.{First, Wrong}
 use Rattle.utf8.specs.Table.{next, is_whole}
@@ -32,22 +24,14 @@ unfolding bits_of
 bits-grow h [] = le_refl h
 bits-grow h (b ∷ s) = le_trans (or_left h b) (bits-grow (bit_or h b) s)
 
-module _ (s : List ℕ) (i : ℕ) where
-  pub bits_none : bits_of 0 (take 16 (drop (i + 0) s)) ≡ bits_of 0 (take 16 (drop i s))
-  bits_none = rw add-zero
+-- a byte more, and the whole block
+pub bits-more : (b : List ℕ) (k bits r : ℕ) → k < length b → bits_of bits (drop k b) ≡ r → bits_of (bit_or bits (get_or b k 0)) (drop (k + 1) b) ≡ r
+unfolding bits_of
+bits-more b k bits r h p = rw add-one ((rw (drop-cons b k 0 h) at p))
 
-  pub bits-more : (bits k r : ℕ) → k < 16 → i + 16 ≤ length s → bits_of bits (take (16 - k) (drop (i + k) s)) ≡ r
-      → bits_of (bit_or bits (get_or s (i + k) 0)) (take (16 - (k + 1)) (drop (i + (k + 1)) s)) ≡ r
-  unfolding bits_of
-  bits-more bits k r h l p =
-      let e : 16 - k ≡ suc (16 - (k + 1)) = omega arith in
-      let n : i + k < length s = omega arith in
-      let m : i + (k + 1) ≡ suc (i + k) = omega arith in
-      rw m (rw (e, drop-cons s (i + k) 0 n) at p)
-
-  pub bits-end : (bits k r : ℕ) → 16 ≤ k → bits_of bits (take (16 - k) (drop (i + k) s)) ≡ r → bits ≡ r
-  unfolding bits_of
-  bits-end bits k r h p = let e : 16 - k ≡ 0 = omega arith in rw e at p
+pub bits-end : (s : List ℕ) (i k bits : ℕ) → length (take (i + 16 - i) (drop i s)) ≤ k → bits_of bits (drop k (take (i + 16 - i) (drop i s))) ≡ bits_of 0 (take (i + 16 - i) (drop i s)) → bits ≡ bits_of 0 (take 16 (drop i s))
+unfolding bits_of
+bits-end s i k bits h p = let e : i + 16 - i ≡ 16 = omega arith in rw e at (rw (drop_of_length-le (take (i + 16 - i) (drop i s)) h) at p)
 
 -- ---- a run of ASCII bytes
 
@@ -85,6 +69,17 @@ module _ (s : List ℕ) (i r : ℕ) (p : i + ascii_run (drop i s) ≡ r) where
   end h =
       let q = rw (drop_of_length-le s h) at p in
       omega arith
+
+run-fits : (s : List ℕ) → ascii_run s ≤ length s
+unfolding ascii_run
+run-fits [] = omega arith
+run-fits (b ∷ s) = let h = run-fits s in elim (ltb b 128) as (λ t. (if t then suc (ascii_run s) else 0) ≤ suc (length s)) [ true ↦ omega arith | false ↦ omega arith ]
+
+-- no byte is left
+pub all-run : (s : List ℕ) (from i : ℕ) → from < length s → i + ascii_run (drop i s) ≡ from + ascii_run (drop from s) → length s ≤ i → length s ≡ from + ascii_run (drop from s)
+all-run s from i h p l =
+    let k : ascii_run (drop from s) ≤ length s - from = rw length-drop at (run-fits (drop from s)) in
+    omega (arith, end s i (from + ascii_run (drop from s)) p l)
 
 -- ASCII bytes leave a first byte due
 skip : (s : List ℕ) → run First (drop (ascii_run s) s) ≡ run First s

@@ -17,7 +17,8 @@ pub enum Due {
     Wrong,
 }
 
-// A character's length by the count of its first byte's leading one bits, 0, 2, 3 or 4 of them; 0 for any other byte.
+// A character's length by the count of its first byte's leading one bits, 0, 2, 3 or 4 of them; 0 for any other byte, as `length_of`
+// has it.
 pub fn char_len(b: u8) -> usize
     ensures { result ≡ length_of b }
 {
@@ -120,7 +121,7 @@ pub fn is_whole(due: Due) -> bool
 
 // ---- a whole text
 
-// Whether a text is UTF-8. Runs of ASCII bytes are skipped.
+// Whether a text is UTF-8. Its place is counted by hand, since runs of ASCII bytes are skipped.
 pub fn is_utf8(s: &[u8]) -> bool
     ensures { result ≡ is_utf8 s.now }
 {
@@ -156,17 +157,16 @@ fn ascii_to(s: &[u8], from: usize) -> usize
     if 0x7F < s[from] {
         return from;
     }
-    let mut at = ascii_blocks(s, from);
-    while at < s.len() {
+    let start = ascii_blocks(s, from);
+    for at in start..s.len() {
         if 0x7F < s[at] {
             return at;
         }
-        at += 1;
     }
-    at
+    s.len()
 }
 
-// The same, as far as whole blocks of 16 bytes reach.
+// The same, as far as whole blocks of 16 bytes reach. The place is counted by hand, since it is the answer.
 fn ascii_blocks(s: &[u8], from: usize) -> usize
     ensures { result + ascii_run (drop result s.now) ≡ from + ascii_run (drop from s.now) }
 {
@@ -188,11 +188,10 @@ fn block_bits(s: &[u8], i: usize) -> u8
     requires { i + 16 ≤ length s.now }
     ensures { result ≡ bits_of 0 (take 16 (drop i s.now)) }
 {
+    let block = &s[i..i + 16];
     let mut bits: u8 = 0;
-    let mut k: usize = 0;
-    while k < 16 {
-        bits = bits | s[i + k];
-        k += 1;
+    for b in block {
+        bits |= *b;
     }
     bits
 }

@@ -1,14 +1,9 @@
 -- When a buffer is zero: no byte of it is set, or part after part was cleared. Assumes nothing.
-use mathlib.Core.Path.{◌≡◌, refl, sym, ap, ◌∙◌}
-use mathlib.Core.Bool.{Bool, true, false, not, ◌||◌, or_assoc, or-false}
-use mathlib.Core.List.{List, [], ◌∷◌, ◌++◌, append_assoc}
-use Prim.Native.Nat.{ℕ, zero, suc, ◌+◌, ◌-◌, ◌/◌, ◌≤◌, ◌<◌}
-use native.Mathlib.Omega.{arith}
-use borrow.Author.Tests.{ne_eqb}
-use lib.Arith.{bin_ind}
-use lib.Bits.{bit_or, or_step}
-use lib.ListN.{length, take, drop, get_or, length-append, length-take, length-drop, length-replicate, drop_of_length-le, replicate-append-replicate}
-use lib.Seq.{take_at}
+use Rattle.std.proofs.Common.{◌≡◌, refl, sym, ap, ◌∙◌, Bool, true, false, not, ◌||◌, List, [], ◌∷◌, ◌++◌, append_assoc, ℕ, zero, suc, ◌+◌, ◌-◌, ◌*◌, ◌/◌, ◌≤◌, ◌<◌, arith, ne_eqb, bit_or, length, take, drop, get_or, length-append, length-take, length-drop, drop_of_length-le, take_at}
+use Rattle.std.proofs.Math.Bool.{or_assoc, or-false}
+use Rattle.std.proofs.Math.Arith.{bin_ind}
+use lib.Bits.{or_step}
+use Rattle.std.proofs.Math.ListN.{length-replicate, replicate-append-replicate}
 use Rattle.lent.specs.Bytes.{any}
 use Rattle.lent.specs.Fill.{zeros}
 use Rattle.lent.proofs.Laws.{next}
@@ -41,12 +36,13 @@ pub still-zero : (s : List ℕ) (x : Bool) → x ≡ any is_set s → not x ≡ 
 still-zero s true p q = let z : ◌≡◌ {A = ℕ} 0 1 = cc in absurd (omega arith)
 still-zero s false p q = none-set s (sym p)
 
--- zeros up to i, and in the n bytes behind them; and up to the end
-pub wiped-more : (d m rest : List ℕ) (i n : ℕ) → i + n ≤ length d → take i d ≡ zeros i → m ≡ zeros (length (take (i + n - i) (drop i d))) → take (i + n) (take i d ++ (m ++ rest)) ≡ zeros (i + n)
-wiped-more d m rest i n h p q =
-    let k : length (take (i + n - i) (drop i d)) ≡ n = simp (length-take, length-drop) (omega arith) in
-    let l : length (zeros i ++ zeros n) ≡ i + n = simp (length-append, length-replicate) in
-    rw (p, q, k, ← append_assoc (zeros i) (zeros n) rest) (take_at (zeros i ++ zeros n) rest (i + n) l ∙ replicate-append-replicate i n 0)
+-- zeros up to the place of a part, and in the part; and up to the end
+pub wiped-more : (d m rest : List ℕ) (k n : ℕ) → n * k + n ≤ length d → take (n * k) d ≡ zeros (n * k) → m ≡ zeros (length (take (n * k + n - n * k) (drop (n * k) d))) → take (n * (k + 1)) (take (n * k) d ++ (m ++ rest)) ≡ zeros (n * (k + 1))
+wiped-more d m rest k n h p q =
+    let e : n * (k + 1) ≡ n * k + n = omega arith in
+    let s : length (take (n * k + n - n * k) (drop (n * k) d)) ≡ n = simp (length-take, length-drop) (omega arith) in
+    let l : length (zeros (n * k) ++ zeros n) ≡ n * k + n = simp (length-append, length-replicate) in
+    rw (e, p, q, s, ← append_assoc (zeros (n * k)) (zeros n) rest) (take_at (zeros (n * k) ++ zeros n) rest (n * k + n) l ∙ replicate-append-replicate (n * k) n 0)
 
 pub wiped-end : (d₀ d e : List ℕ) (i : ℕ) → i ≤ length d → length d ≡ length d₀ → take i d ≡ zeros i → e ≡ take i d ++ zeros (length d - i) → e ≡ zeros (length d₀)
 wiped-end d₀ d e i h l p q =

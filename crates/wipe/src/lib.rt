@@ -13,12 +13,12 @@ const PART: usize = 16384;
 pub fn wipe(out: &mut [u8])
     ensures { out.new ≡ zeros (length out.old) }
 {
-    let mut i: usize = 0;
-    while PART <= out.len() - i {
-        wipe_part(&mut out[i..i + PART]);
-        i += PART;
+    // By places: behind a `chunks_mut` a proof knows the slice's length alone.
+    let parts = out.len() / PART;
+    for k in 0..parts {
+        wipe_part(&mut out[PART * k..PART * k + PART]);
     }
-    lent::clear(out, i);
+    lent::clear(out, PART * parts);
 }
 
 fn wipe_part(out: &mut [u8])
@@ -35,10 +35,8 @@ fn has_any(s: &[u8]) -> bool
     ensures { result ≡ any is_set s.now }
 {
     let mut found: u8 = 0;
-    let mut i = 0;
-    while i < s.len() {
-        found = found | s[i];
-        i += 1;
+    for b in s {
+        found |= *b;
     }
     found != 0
 }

@@ -1,12 +1,5 @@
 -- A call and a backreference, piece by piece. Assumes nothing.
-use Rattle.std.specs.Prelude.{if◌then◌else◌}
-use mathlib.Core.Path.{◌≡◌, refl}
-use mathlib.Core.List.{List, [], ◌∷◌, ◌++◌, append_assoc}
-use Prim.Native.Nat.{ℕ, zero, suc, ◌+◌, ◌≤◌, ◌<◌}
-use native.Mathlib.Omega.{arith}
-use native.Mathlib.Numerals.{add-one}
-use borrow.Author.Tests.{lt-ltb, le-ltb}
-use lib.Dec.{ltb}
+use Rattle.std.proofs.Common.{if◌then◌else◌, ◌≡◌, refl, List, [], ◌++◌, append_assoc, ℕ, zero, suc, ◌+◌, ◌≤◌, ◌<◌, arith, add-one, lt-ltb, le-ltb, ltb}
 use Rattle.lent.specs.Bytes.{bytes}
 use Rattle.lent.specs.Fill.{Filled}
 use Rattle.lent.proofs.Laws.{none, both, same}

@@ -7,55 +7,50 @@ ghost use Rattle.lent.specs.Fill.{Filled};
 ghost use Rattle.encode_byte.specs.Byte.{escaping_of};
 ghost use Rattle.encode.specs.Encode.{encode_of};
 ghost use Rattle.url_byte.specs.Private.{byte_of};
-ghost use Rattle.normalize_identifier.specs.Identity.{left_at};
+ghost use Rattle.normalize_identifier.specs.Left.{left};
 ghost use Rattle.machine.specs.Footnote.{address_of, again_text, call_text};
 ghost use Rattle.machine.specs.Buffers.{push, is_eol};
 ghost use Rattle.machine.specs.Section.{backreference, backreferences, body_end, ends_paragraph, sup_text};
 ghost use Rattle.state_buffers.specs.Stand.{Keeps};
+ghost use Rattle.write_footnote.specs.Address.{address_text};
 ghost use Rattle.write_footnote.specs.Pieces.{back_href, back_end, back_text, call_href, call_id, call_number, next_reference};
 
-use normalize_identifier::{Cursor, Step};
+use lent::Writer;
+use normalize_identifier::Identity;
 use state_buffers::Buffers;
+
+// What an address is made of: a footnote's label, and whether apostrophes are escaped.
+#[derive(Clone, Copy)]
+pub struct Address<'a> {
+    pub label: &'a [u8],
+    pub apostrophes: bool,
+}
 
 // ---- the address: the label's identity, lower-cased and sanitized, read off the label byte by byte
 
 // Appends the address of a label. Nothing is kept of the identity, however long it is.
-pub fn put_address(label: &[u8], apostrophes: bool, out: &mut [u8], at: usize) -> usize
-    ensures { Filled out.old at (address_of apostrophes label.now) out.new result }
+pub fn put_address(address: Address, out: &mut [u8], at: usize) -> usize
+    ensures { Filled out.old at (address_text address.entry) out.new result }
 {
-    let mut c = Cursor {
-        at: 0,
-        begun: false,
-    };
+    let mut rest = Identity::new(address.label);
     let mut end = at;
-    loop {
-        let Step::Byte(b, d) = normalize_identifier::next(label, c) else {
-            return end;
-        };
-        end = put_byte(label, b, d, apostrophes, out, end);
-        c = d;
+    while let Some(b) = rest.next() {
+        end = put_byte(b, rest, address.apostrophes, out, end);
     }
+    end
 }
 
-// The byte `b` of the identity, which goes on at `d`.
-fn put_byte(label: &[u8], b: u8, d: Cursor, apostrophes: bool, out: &mut [u8], at: usize) -> usize
-    ensures { Filled out.old at (encode_of (escaping_of true apostrophes) (byte_of (mapped lower (b ∷ left_at label.now d)))) out.new result }
+// The byte `b` of the identity, by what is left of that: a `%` looks at the two bytes behind it.
+fn put_byte(b: u8, mut rest: Identity, apostrophes: bool, out: &mut [u8], at: usize) -> usize
+    ensures { Filled out.old at (encode_of (escaping_of true apostrophes) (byte_of (mapped lower (b ∷ left rest.entry)))) out.new result }
 {
-    let l = to_lower(b);
-    if l == b'%' {
-        return put_sign(label, d, apostrophes, out, at);
+    let l = b.to_ascii_lowercase();
+    if l != b'%' {
+        return put_before(l, 0, 0, apostrophes, out, at);
     }
-    put_before(l, 0, 0, apostrophes, out, at)
-}
-
-// A `%`, by the two bytes behind it.
-fn put_sign(label: &[u8], d: Cursor, apostrophes: bool, out: &mut [u8], at: usize) -> usize
-    ensures { Filled out.old at (encode_of (escaping_of true apostrophes) (byte_of (37 ∷ mapped lower (left_at label.now d)))) out.new result }
-{
-    let Step::Byte(x, e) = normalize_identifier::next(label, d) else {
-        return put_before(b'%', 0, 0, apostrophes, out, at);
-    };
-    put_before(b'%', to_lower(x), byte_at(label, e), apostrophes, out, at)
+    let x = rest.next().unwrap_or(0).to_ascii_lowercase();
+    let y = rest.next().unwrap_or(0).to_ascii_lowercase();
+    put_before(l, x, y, apostrophes, out, at)
 }
 
 // The byte `b` before `x` and `y`. A zero stands for a byte that is not there: like it, it is no letter or digit.
@@ -64,29 +59,9 @@ fn put_before(b: u8, x: u8, y: u8, apostrophes: bool, out: &mut [u8], at: usize)
 {
     let s = [b, x, y];
     let escaping = encode_byte::escaping_of(true, apostrophes);
-    url_byte::put_url_byte(&s, 0, escaping, out, at)
-}
-
-// The next byte of the identity, lower-cased, and zero at its end.
-fn byte_at(label: &[u8], c: Cursor) -> u8
-    ensures { result ≡ lower (get_or (left_at label.now c) 0 0) }
-{
-    match normalize_identifier::next(label, c) {
-        Step::Byte(b, _) => to_lower(b),
-        Step::End => 0,
-    }
-}
-
-fn to_lower(b: u8) -> u8
-    ensures { result ≡ lower b }
-{
-    if b < 65 {
-        return b;
-    }
-    if b <= 90 {
-        return b + 32;
-    }
-    b
+    let mut w = Writer { bytes: out, at };
+    url_byte::put_url_byte(&s, 0, escaping, &mut w);
+    w.at
 }
 
 // ---- a call
@@ -103,43 +78,37 @@ pub fn push_call(
 ) -> Buffers
     ensures { Keeps (push (call_text (address_of apostrophes label.now) number times)) b captures.old out.old result captures.new out.new }
 {
+    let address = Address { label, apostrophes };
     let mut r = b;
     if b.depth == 0 {
-        r.page = put_call(label, apostrophes, number, times, out, b.page);
+        r.page = put_call(address, number, times, out, b.page);
         return r;
     }
-    r.end = put_call(label, apostrophes, number, times, captures, b.end);
+    r.end = put_call(address, number, times, captures, b.end);
     r
 }
 
 // Appends the call of the footnote with a number, which is called for the `times`th time.
-pub fn put_call(
-    label: &[u8],
-    apostrophes: bool,
-    number: usize,
-    times: usize,
-    out: &mut [u8],
-    at: usize,
-) -> usize
-    ensures { Filled out.old at (call_text (address_of apostrophes label.now) number times) out.new result }
+pub fn put_call(address: Address, number: usize, times: usize, out: &mut [u8], at: usize) -> usize
+    ensures { Filled out.old at (call_text (address_text address.entry) number times) out.new result }
 {
-    let p = put_call_href(label, apostrophes, out, at);
-    let q = put_call_id(label, apostrophes, times, out, p);
+    let p = put_call_href(address, out, at);
+    let q = put_call_id(address, times, out, p);
     put_call_number(number, out, q)
 }
 
-fn put_call_href(label: &[u8], apostrophes: bool, out: &mut [u8], at: usize) -> usize
-    ensures { Filled out.old at (call_href (address_of apostrophes label.now)) out.new result }
+fn put_call_href(address: Address, out: &mut [u8], at: usize) -> usize
+    ensures { Filled out.old at (call_href (address_text address.entry)) out.new result }
 {
     let p = lent::put_all(out, at, b"<sup><a href=\"#user-content-fn-");
-    put_address(label, apostrophes, out, p)
+    put_address(address, out, p)
 }
 
-fn put_call_id(label: &[u8], apostrophes: bool, times: usize, out: &mut [u8], at: usize) -> usize
-    ensures { Filled out.old at (call_id (address_of apostrophes label.now) times) out.new result }
+fn put_call_id(address: Address, times: usize, out: &mut [u8], at: usize) -> usize
+    ensures { Filled out.old at (call_id (address_text address.entry) times) out.new result }
 {
     let p = lent::put_all(out, at, b"\" id=\"user-content-fnref-");
-    let q = put_address(label, apostrophes, out, p);
+    let q = put_address(address, out, p);
     put_again(times, out, q)
 }
 
@@ -175,47 +144,39 @@ fn put_again(times: usize, out: &mut [u8], at: usize) -> usize
 // ---- the way back
 
 // Appends a backreference for each call. The address is read off the label each time: it is written as often.
-pub fn put_backreferences(
-    label: &[u8],
-    apostrophes: bool,
-    times: usize,
-    out: &mut [u8],
-    at: usize,
-) -> usize
-    ensures { Filled out.old at (backreferences (address_of apostrophes label.now) times) out.new result }
+pub fn put_backreferences(address: Address, times: usize, out: &mut [u8], at: usize) -> usize
+    ensures { Filled out.old at (backreferences (address_text address.entry) times) out.new result }
 {
     let mut r = at;
-    let mut i = 0;
-    while i < times {
-        i += 1;
-        r = put_next(label, apostrophes, i, out, r);
+    for i in 0..times {
+        r = put_next(address, i + 1, out, r);
     }
     r
 }
 
 // The backreference of the nth call, with a space between two.
-fn put_next(label: &[u8], apostrophes: bool, n: usize, out: &mut [u8], at: usize) -> usize
-    ensures { Filled out.old at (next_reference (address_of apostrophes label.now) n) out.new result }
+fn put_next(address: Address, n: usize, out: &mut [u8], at: usize) -> usize
+    ensures { Filled out.old at (next_reference (address_text address.entry) n) out.new result }
 {
     if n <= 1 {
-        return put_backreference(label, apostrophes, n, out, at);
+        return put_backreference(address, n, out, at);
     }
     let p = lent::put(out, at, b' ');
-    put_backreference(label, apostrophes, n, out, p)
+    put_backreference(address, n, out, p)
 }
 
-fn put_backreference(label: &[u8], apostrophes: bool, n: usize, out: &mut [u8], at: usize) -> usize
-    ensures { Filled out.old at (backreference (address_of apostrophes label.now) n) out.new result }
+fn put_backreference(address: Address, n: usize, out: &mut [u8], at: usize) -> usize
+    ensures { Filled out.old at (backreference (address_text address.entry) n) out.new result }
 {
-    let p = put_back_href(label, apostrophes, n, out, at);
+    let p = put_back_href(address, n, out, at);
     put_back_end(n, out, p)
 }
 
-fn put_back_href(label: &[u8], apostrophes: bool, n: usize, out: &mut [u8], at: usize) -> usize
-    ensures { Filled out.old at (back_href (address_of apostrophes label.now) n) out.new result }
+fn put_back_href(address: Address, n: usize, out: &mut [u8], at: usize) -> usize
+    ensures { Filled out.old at (back_href (address_text address.entry) n) out.new result }
 {
     let p = lent::put_all(out, at, b"<a href=\"#user-content-fnref-");
-    let q = put_address(label, apostrophes, out, p);
+    let q = put_address(address, out, p);
     put_again(n, out, q)
 }
 
@@ -255,21 +216,19 @@ fn put_sup(n: usize, out: &mut [u8], at: usize) -> usize
 pub fn body_end(body: &[u8]) -> usize
     ensures { result ≡ body_end body.now }
 {
-    let mut i = body.len();
-    while 0 < i {
-        if is_eol(body[i - 1]) {
-            i -= 1;
-            continue;
+    for i in (0..body.len()).rev() {
+        if !is_eol(body[i]) {
+            return i + 1;
         }
-        return i;
     }
     0
 }
 
+// state_buffers has this too, for itself: a public one would say no more than the two bytes do.
 fn is_eol(b: u8) -> bool
     ensures { result ≡ is_eol b }
 {
-    (b == b'\n') | (b == b'\r')
+    matches!(b, b'\n' | b'\r')
 }
 
 // Whether `</p>` stands before them.

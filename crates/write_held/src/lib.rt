@@ -17,6 +17,7 @@ use state_buffers::Buffers;
 pub fn push_part(b: Buffers, work: &mut [u8], out: &mut [u8], from: usize, n: usize) -> Buffers
     ensures { PushesPart from n b work.old out.old result work.new out.new }
 {
+    // Not by `push_by`: the bytes stand in the buffer that the captures are in.
     let mut r = b;
     if !is_part(work.len(), from, n) {
         return b;
@@ -89,6 +90,7 @@ fn put_url(
     put_long_url(work, at, from, n, options, image)
 }
 
+// Two functions for two lengths: by a const parameter the proof did not close, and a clause would have to say that N bytes can be addressed.
 fn put_short_url(
     work: &mut [u8],
     at: usize,

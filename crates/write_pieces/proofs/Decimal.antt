@@ -66,8 +66,8 @@ module _ {d e : List ℕ} {at r : ℕ} (n : ℕ) where
 
 -- ---- spaces
 
-pub space-more : (n : ℕ) → 0 < n → replicate {A = ℕ} n 32 ≡ (32 ∷ []) ++ replicate (n - 1) 32
-space-more n h = let e : n ≡ suc (n - 1) = omega arith in ap (λ (m : ℕ). replicate {A = ℕ} m 32) e
+pub space-more : (n k : ℕ) → k < n → replicate {A = ℕ} (n - k) 32 ≡ (32 ∷ []) ++ replicate (n - (k + 1)) 32
+space-more n k h = let e : n - k ≡ suc (n - (k + 1)) = omega arith in ap (λ (m : ℕ). replicate {A = ℕ} m 32) e
 
-pub space-end : (n : ℕ) → n ≤ 0 → replicate {A = ℕ} n 32 ≡ []
-space-end n h = let e : n ≡ 0 = omega arith in rw e
+pub space-end : (n k : ℕ) → n ≤ k → replicate {A = ℕ} (n - k) 32 ≡ []
+space-end n k h = let e : n - k ≡ 0 = omega arith in rw e

@@ -1,4 +1,5 @@
 -- An item value's digits one by one, and the attributes that are written. Assumes nothing.
+use Rattle.std.specs.Prelude.{Option, Some, None}
 use Rattle.std.specs.Prelude.{if◌then◌else◌}
 use mathlib.Core.Path.{◌≡◌, refl}
 use mathlib.Core.Bool.{Bool, true, false}
@@ -20,8 +21,6 @@ use Rattle.character_reference.specs.Reference.{digit_value, is_digit_of, are_di
 use Rattle.character_reference.proofs.Numbers.{below, above, inside, digit, upper-case, lower-case, no-digit₁, no-digit₂, no-digit₃, no-digit₄}
 use Rattle.machine.specs.Outcome.{stop, go}
 use Rattle.machine.specs.Text.{decimal, start_text, start_of, align_text}
-use Rattle.write_pieces.specs.declared.Start.{Start}
-use Rattle.write_pieces.specs.declared.Start.TheVariants.{At, Broken}
 use Rattle.write_pieces.specs.Written.{written, number_in}
 
 -- ---- digits of base 10
@@ -42,15 +41,15 @@ no-small-digit b h = elim (dec_lt b 65) [
 ]
 
 -- what the digits left say, behind those that say n
-abbrev pub number_left : ℕ → List ℕ → Start
-number_left n s = if all (is_digit_of 10) s then At (number_from 10 n s) else Broken
+abbrev pub number_left : ℕ → List ℕ → Option ℕ
+number_left n s = if all (is_digit_of 10) s then Some (number_from 10 n s) else None
 
 module _ (s : List ℕ) where
-  pub none-there : length s < 1 → Broken ≡ number_in s
+  pub none-there : length s < 1 → None ≡ number_in s
   unfolding number_in
   none-there h = rw (below 1 9 (length s) h)
 
-  pub too_many : 9 < length s → Broken ≡ number_in s
+  pub too_many : 9 < length s → None ≡ number_in s
   unfolding number_in
   too_many h = rw (above 1 9 (length s) h)
 
@@ -58,11 +57,11 @@ module _ (s : List ℕ) where
   unfolding number_in
   all_left h k = rw (inside 1 9 (length s) h k)
 
-module _ (n i : ℕ) (s : List ℕ) (v : Start) (h : i < length s) (left : number_left n (drop i s) ≡ v) where
-  pub below-digits : get_or s i 0 < 48 → Broken ≡ v
+module _ (n i : ℕ) (s : List ℕ) (v : Option ℕ) (h : i < length s) (left : number_left n (drop i s) ≡ v) where
+  pub below-digits : get_or s i 0 < 48 → None ≡ v
   below-digits k = rw (next s i h, ← no-digit₁ (get_or s i 0) k) at left
 
-  pub above-digits : 57 < get_or s i 0 → Broken ≡ v
+  pub above-digits : 57 < get_or s i 0 → None ≡ v
   above-digits k = rw (next s i h, le-ltb (digit_value (get_or s i 0)) 10 (no-small-digit (get_or s i 0) k)) at left
 
   pub next-digit : 48 ≤ get_or s i 0 → get_or s i 0 ≤ 57 → number_left (n * 10 + (get_or s i 0 - 48)) (drop (i + 1) s) ≡ v
@@ -71,7 +70,7 @@ module _ (n i : ℕ) (s : List ℕ) (v : Start) (h : i < length s) (left : numbe
       let l : digit_value (get_or s i 0) < 10 = omega arith in
       rw e (rw (next s i h, lt-ltb (digit_value (get_or s i 0)) 10 l) at left)
 
-pub no-digit-left : (n i : ℕ) (s : List ℕ) (v : Start) → length s ≤ i → number_left n (drop i s) ≡ v → At n ≡ v
+pub no-digit-left : (n i : ℕ) (s : List ℕ) (v : Option ℕ) → length s ≤ i → number_left n (drop i s) ≡ v → Some n ≡ v
 no-digit-left n i s v h left = rw (drop_of_length-le s h) at left
 
 -- up to nine digits say less than 2 ^ 64
@@ -92,23 +91,23 @@ module _ (n i : ℕ) (s : List ℕ) (l : length s ≤ 9) (h : i < length s) (sma
 -- ---- the attribute of a list
 
 -- by what its value says
-abbrev attribute : Start → List ℕ
-attribute (At n) = start_text n
-attribute Broken = []
+abbrev attribute : Option ℕ → List ℕ
+attribute (Some n) = start_text n
+attribute None = []
 
 attribute-is : (s : List ℕ) → written (start_of s) ≡ attribute (number_in s)
 unfolding start_of number_in
 attribute-is s = on (are_digits 10 9 s)
   where
-    on : (t : Bool) → written (if t then go (start_text (from_digits 10 s)) else stop) ≡ attribute (if t then At (from_digits 10 s) else Broken)
+    on : (t : Bool) → written (if t then go (start_text (from_digits 10 s)) else stop) ≡ attribute (if t then Some (from_digits 10 s) else None)
     on true = refl
     on false = refl
 
-module _ (s : List ℕ) (v : Start) (e : v ≡ number_in s) where
-  pub starts : {d f : List ℕ} {at r : ℕ} (n : ℕ) → v ≡ At n → Filled d at (start_text n) f r → Filled d at (written (start_of s)) f r
+module _ (s : List ℕ) (v : Option ℕ) (e : v ≡ number_in s) where
+  pub starts : {d f : List ℕ} {at r : ℕ} (n : ℕ) → v ≡ Some n → Filled d at (start_text n) f r → Filled d at (written (start_of s)) f r
   starts n p q = rw (attribute-is s, ← e, p) q
 
-  pub starts-not : (d : List ℕ) (at : ℕ) → v ≡ Broken → Filled d at (written (start_of s)) d at
+  pub starts-not : (d : List ℕ) (at : ℕ) → v ≡ None → Filled d at (written (start_of s)) d at
   starts-not d at p = rw (attribute-is s, ← e, p) (none d at)
 
 module _ (n : ℕ) where

@@ -8,7 +8,7 @@ ghost use Rattle.write_pieces.specs.Written.{written, number_in};
 ghost use Rattle.lent.specs.Bytes.{bytes};
 ghost use Rattle.encode.specs.Encode.{encode_of};
 ghost use Rattle.sanitize_uri.specs.Url.{sanitize_of};
-ghost use Rattle.event.specs.Event.{alignment_of};
+ghost use Rattle.sanitize_uri.specs.Protocols.{schemes_of, sanitize_with_protocols_of};
 ghost use Rattle.character_reference.specs.Reference.{reference_for, or_nothing};
 ghost use Rattle.machine.specs.Buffers.{push};
 ghost use Rattle.machine.specs.Turn.{url_of};
@@ -18,18 +18,12 @@ ghost use Rattle.write_pieces.specs.Pieces.{PushesMail, PushesReference, PushesS
 use character_reference::{Marker, Names};
 use encode_byte::Escaping;
 use event::{BytePlace, Event};
+use lent::Writer;
 use machine::Options;
 use sanitize_uri::Protocols;
 use state_buffers::Buffers;
 
 // ---- short texts, appended to a lent buffer
-
-// What the digits of an item's value say; nothing where the slice breaks its rule.
-#[derive(Clone, Copy)]
-pub enum Start {
-    At(usize),
-    Broken,
-}
 
 // Appends a number in decimal: the digits before the last one first.
 pub fn put_decimal(out: &mut [u8], at: usize, n: usize) -> usize
@@ -54,10 +48,8 @@ pub fn put_spaces(out: &mut [u8], at: usize, n: usize) -> usize
     ensures { Filled out.old at (replicate n 32) out.new result }
 {
     let mut r = at;
-    let mut left = n;
-    while 0 < left {
+    for _ in 0..n {
         r = lent::put(out, r, b' ');
-        left -= 1;
     }
     r
 }
@@ -69,8 +61,8 @@ pub fn put_start(out: &mut [u8], at: usize, s: &[u8]) -> usize
     ensures { Filled out.old at (written (start_of s.now)) out.new result }
 {
     match number_in(s) {
-        Start::At(n) => put_start_number(out, at, n),
-        Start::Broken => at,
+        Some(n) => put_start_number(out, at, n),
+        None => at,
     }
 }
 
@@ -85,29 +77,27 @@ fn put_start_number(out: &mut [u8], at: usize, n: usize) -> usize
     lent::put(out, q, b'"')
 }
 
-fn number_in(s: &[u8]) -> Start
+// What the digits of an item's value say; nothing where they break its rule.
+fn number_in(s: &[u8]) -> Option<usize>
     ensures { result ≡ number_in s.now }
 {
     if s.len() < 1 {
-        return Start::Broken;
+        return None;
     }
     if 9 < s.len() {
-        return Start::Broken;
+        return None;
     }
     let mut n: usize = 0;
-    let mut i = 0;
-    while i < s.len() {
-        let b = s[i];
+    for &b in s {
         if b < b'0' {
-            return Start::Broken;
+            return None;
         }
         if b'9' < b {
-            return Start::Broken;
+            return None;
         }
         n = n * 10 + (b - b'0') as usize;
-        i += 1;
     }
-    Start::At(n)
+    Some(n)
 }
 
 // Appends the attribute of a cell with an alignment.
@@ -128,13 +118,7 @@ pub fn put_align(out: &mut [u8], at: usize, a: u64) -> usize
 pub fn push_decimal(b: Buffers, captures: &mut [u8], out: &mut [u8], n: usize) -> Buffers
     ensures { Keeps (push (decimal n)) b captures.old out.old result captures.new out.new }
 {
-    let mut r = b;
-    if b.depth == 0 {
-        r.page = put_decimal(out, b.page, n);
-        return r;
-    }
-    r.end = put_decimal(captures, b.end, n);
-    r
+    state_buffers::push_by(b, captures, out, |w, at| put_decimal(w, at, n))
 }
 
 // A line of code between its virtual spaces, encoded as `escaping` says.
@@ -149,13 +133,9 @@ pub fn push_padded(
 ) -> Buffers
     ensures { Keeps (push (encode_of escaping (replicate before 32 ++ s.now ++ replicate after 32))) b captures.old out.old result captures.new out.new }
 {
-    let mut r = b;
-    if b.depth == 0 {
-        r.page = put_padded(out, b.page, before, s, after, escaping);
-        return r;
-    }
-    r.end = put_padded(captures, b.end, before, s, after, escaping);
-    r
+    state_buffers::push_by(b, captures, out, |w, at| {
+        put_padded(w, at, before, s, after, escaping)
+    })
 }
 
 fn put_padded(
@@ -169,7 +149,7 @@ fn put_padded(
     ensures { Filled out.old at (encode_of escaping (replicate before 32 ++ s.now ++ replicate after 32)) out.new result }
 {
     let p = put_spaces(out, at, before as usize);
-    let q = encode::encode(s, escaping, out, p);
+    let q = state_buffers::put_encoded(s, escaping, out, p);
     put_spaces(out, q, after as usize)
 }
 
@@ -186,13 +166,7 @@ pub fn push_url(
 ) -> Buffers
     ensures { Keeps (push (url_of options image s.now)) b captures.old out.old result captures.new out.new }
 {
-    let mut r = b;
-    if b.depth == 0 {
-        r.page = put_url(out, b.page, s, options, image);
-        return r;
-    }
-    r.end = put_url(captures, b.end, s, options, image);
-    r
+    state_buffers::push_by(b, captures, out, |w, at| put_url(w, at, s, options, image))
 }
 
 // The same, appended to a lent buffer.
@@ -201,15 +175,33 @@ pub fn put_url(out: &mut [u8], at: usize, s: &[u8], options: Options, image: boo
 {
     let apostrophes = options.escape_apostrophes;
     if options.allow_dangerous_protocol {
-        return sanitize_uri::sanitize(s, apostrophes, out, at);
+        return put_sanitized(s, apostrophes, out, at);
     }
     if !image {
-        return sanitize_uri::sanitize_with_protocols(s, Protocols::Link, apostrophes, out, at);
+        return put_safe(s, Protocols::Link, apostrophes, out, at);
     }
     if options.allow_any_img_src {
-        return sanitize_uri::sanitize(s, apostrophes, out, at);
+        return put_sanitized(s, apostrophes, out, at);
     }
-    sanitize_uri::sanitize_with_protocols(s, Protocols::Image, apostrophes, out, at)
+    put_safe(s, Protocols::Image, apostrophes, out, at)
+}
+
+// A URL made safe, appended at a place.
+fn put_sanitized(s: &[u8], apostrophes: bool, out: &mut [u8], at: usize) -> usize
+    ensures { Filled out.old at (sanitize_of apostrophes s.now) out.new result }
+{
+    let mut w = Writer { bytes: out, at };
+    sanitize_uri::sanitize(s, apostrophes, &mut w);
+    w.at
+}
+
+// The same, or nothing where the scheme is not listed.
+fn put_safe(s: &[u8], protocols: Protocols, apostrophes: bool, out: &mut [u8], at: usize) -> usize
+    ensures { Filled out.old at (sanitize_with_protocols_of apostrophes (schemes_of protocols) s.now) out.new result }
+{
+    let mut w = Writer { bytes: out, at };
+    sanitize_uri::sanitize_with_protocols(s, protocols, apostrophes, &mut w);
+    w.at
 }
 
 // The address of an email autolink: with its scheme it is safe, whatever may be dangerous.
@@ -222,20 +214,14 @@ pub fn push_mail(
 ) -> Buffers
     ensures { PushesMail apostrophes s.now b captures.old out.old result captures.new out.new }
 {
-    let mut r = b;
-    if b.depth == 0 {
-        r.page = put_mail(out, b.page, s, apostrophes);
-        return r;
-    }
-    r.end = put_mail(captures, b.end, s, apostrophes);
-    r
+    state_buffers::push_by(b, captures, out, |w, at| put_mail(w, at, s, apostrophes))
 }
 
 fn put_mail(out: &mut [u8], at: usize, s: &[u8], apostrophes: bool) -> usize
     ensures { Filled out.old at (sanitize_of apostrophes (bytes "mailto:" ++ s.now)) out.new result }
 {
     let p = lent::put_all(out, at, b"mailto:");
-    sanitize_uri::sanitize(s, apostrophes, out, p)
+    put_sanitized(s, apostrophes, out, p)
 }
 
 // ---- references
@@ -252,13 +238,18 @@ pub fn push_reference(
 ) -> Buffers
     ensures { PushesReference names m s.now escaping b captures.old out.old result captures.new out.new }
 {
-    let mut r = b;
-    if b.depth == 0 {
-        r.page = put_reference(out, b.page, names, m, s, escaping);
-        return r;
-    }
-    r.end = put_reference(captures, b.end, names, m, s, escaping);
-    r
+    state_buffers::push_by(b, captures, out, |w, at| {
+        put_reference(w, at, names, m, s, escaping)
+    })
+}
+
+// What a reference stands for.
+fn put_value(out: &mut [u8], names: Names, m: Marker, s: &[u8]) -> usize
+    ensures { Filled out.old 0 (or_nothing (reference_for names m s.now)) out.new result }
+{
+    let mut w = Writer { bytes: out, at: 0 };
+    character_reference::put_reference(&mut w, names, m, s);
+    w.at
 }
 
 // It is four bytes at most.
@@ -273,8 +264,8 @@ fn put_reference(
     ensures { Filled out.old at (encode_of escaping (or_nothing (reference_for names m s.now))) out.new result }
 {
     let mut d = [0u8; 4];
-    let n = character_reference::put_reference(&mut d, 0, names, m, s);
-    encode::encode(&d[0..n], escaping, out, at)
+    let n = put_value(&mut d, names, m, s);
+    state_buffers::put_encoded(&d[0..n], escaping, out, at)
 }
 
 // ---- attributes
@@ -283,13 +274,7 @@ fn put_reference(
 pub fn push_start(b: Buffers, captures: &mut [u8], out: &mut [u8], s: &[u8]) -> Buffers
     ensures { PushesStart s.now b captures.old out.old result captures.new out.new }
 {
-    let mut r = b;
-    if b.depth == 0 {
-        r.page = put_start(out, b.page, s);
-        return r;
-    }
-    r.end = put_start(captures, b.end, s);
-    r
+    state_buffers::push_by(b, captures, out, |w, at| put_start(w, at, s))
 }
 
 // The alignment of a column, by the extra field of its table's enter.
@@ -302,20 +287,15 @@ pub fn push_align(
 ) -> Buffers
     ensures { PushesAlign extra column b captures.old out.old result captures.new out.new }
 {
-    let mut r = b;
-    let a = alignment_in(extra, column);
-    if b.depth == 0 {
-        r.page = put_align(out, b.page, a);
-        return r;
-    }
-    r.end = put_align(captures, b.end, a);
-    r
+    let a = table_enter(extra).alignment(column);
+    state_buffers::push_by(b, captures, out, |w, at| put_align(w, at, a))
 }
 
-fn alignment_in(extra: u64, column: usize) -> u64
-    ensures { result ≡ alignment_of (enter_of extra) column }
+// The enter of a table: of its fields the extra one alone matters.
+pub fn table_enter(extra: u64) -> Event
+    ensures { result ≡ enter_of extra }
 {
-    let enter = Event {
+    Event {
         kind: Event::ENTER,
         name: Event::GFM_TABLE,
         before: 0,
@@ -323,6 +303,5 @@ fn alignment_in(extra: u64, column: usize) -> u64
         from: BytePlace(0),
         to: BytePlace(0),
         extra,
-    };
-    enter.alignment(column)
+    }
 }

@@ -1,10 +1,5 @@
 -- What the machine writes of the section, where no capture is open. Assumes nothing.
-use Rattle.std.specs.Prelude.{if◌then◌else◌}
-use mathlib.Core.Path.{◌≡◌, refl, ap, ◌∙◌}
-use mathlib.Core.Bool.{Bool, true, false}
-use mathlib.Core.List.{List, [], ◌∷◌, ◌++◌, append_assoc}
-use Prim.Native.Nat.{ℕ, ◌-◌}
-use lib.ListN.{take, drop}
+use Rattle.std.proofs.Common.{if◌then◌else◌, ◌≡◌, refl, ap, ◌∙◌, Bool, true, false, List, [], ◌∷◌, ◌++◌, append_assoc, ℕ, ◌-◌, take, drop}
 use Rattle.lent.specs.Bytes.{bytes}
 use Rattle.machine.specs.Outcome.{Outcome, stop, go, ◌>>=◌}
 use Rattle.machine.specs.State.{State, Call}

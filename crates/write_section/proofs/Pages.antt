@@ -1,15 +1,6 @@
 -- One piece behind the other on a page that stands in the buffer. Assumes nothing.
-use Rattle.std.specs.Prelude.{if◌then◌else◌}
-use mathlib.Core.Path.{◌≡◌, refl, sym, ◌∙◌}
-use mathlib.Core.Bool.{Bool, true, false, true≢false}
-use mathlib.Core.List.{List, [], ◌++◌}
-use Prim.Native.Nat.{ℕ, ◌-◌, ◌≤◌, ◌<◌}
-use native.Mathlib.Decide.{dec_le}
-use native.Mathlib.Omega.{arith}
-use borrow.Author.Tests.{ltb-true}
-use lib.Dec.{ltb}
-use lib.ListN.{length, take, drop, length-drop}
-use lib.Seq.{take_all}
+use Rattle.std.proofs.Common.{if◌then◌else◌, ◌≡◌, refl, sym, ◌∙◌, Bool, true, false, true≢false, List, [], ◌++◌, ℕ, ◌-◌, ◌≤◌, ◌<◌, arith, ltb-true, ltb, length, take, drop}
+use Rattle.std.proofs.Math.Decide.{dec_le}
 use Rattle.lent.specs.Bytes as B
 use Rattle.lent.specs.Bytes.{bytes}
 use Rattle.lent.specs.Fill.{Filled}
@@ -86,13 +77,10 @@ unfolding item_end
 item-end-put ending x y = record { writes = λ page h. more (x.writes page h) y }
 
 -- the two parts of the body as the code lends them
-pub split-put : {d e f g j : List ℕ} {at p q m r : ℕ} (body : List ℕ) (cut : ℕ) (back : List ℕ) → Filled d at (take (cut - 0) body) e p → Filled e p (bytes " ") f q → Filled f q back g m
-    → Filled g m (take (length body - cut) (drop cut body)) j r → Filled d at (split_body body cut back) j r
+pub split-put : {d e f g j before after : List ℕ} {at p q m r : ℕ} (body : List ℕ) (cut : ℕ) (back : List ℕ) → before ≡ take cut body → after ≡ drop cut body → Filled d at before e p → Filled e p (bytes " ") f q → Filled f q back g m
+    → Filled g m after j r → Filled d at (split_body body cut back) j r
 unfolding split_body
-split-put body cut back w x y z =
-    let a : cut - 0 ≡ cut = omega arith in
-    let b : take (length body - cut) (drop cut body) ≡ drop cut body = take_all (length body - cut) (drop cut body) (rw length-drop (omega arith)) in
-    both (both (both (rw a at w) x) y) (rw b at z)
+split-put body cut back a b w x y z = both (both (both (rw a at w) x) y) (rw b at z)
 
 -- ---- a body, by how it ends
 

@@ -1,15 +1,9 @@
 -- The label and the body of a call, out of the tables. Assumes nothing.
-use mathlib.Core.Path.{◌≡◌, refl, sym, ap, ◌∙◌}
-use mathlib.Core.List.{List, [], ◌∷◌}
-use mathlib.Core.Option.{Option, none, some}
-use Prim.Native.Nat.{ℕ, zero, suc, ◌+◌, ◌-◌, ◌≤◌, ◌<◌}
-use native.Mathlib.Omega.{arith}
-use lib.ListN.{length, take, drop, get_or, get_elem?, length-take}
-use lib.Seq.{get_or-take}
+use Rattle.std.proofs.Common.{Some, None, ◌≡◌, refl, sym, ap, ◌∙◌, List, [], ◌∷◌, ℕ, zero, suc, ◌+◌, ◌-◌, ◌≤◌, ◌<◌, arith, length, take, drop, get_or, length-take, get_or-take}
+use Rattle.std.proofs.Math.Option.{Option, none, some}
+use Rattle.std.proofs.Math.ListN.{get_elem?}
 use Rattle.regions.specs.Sizes.{region_size, kept_at, work_size}
-use Rattle.normalize_identifier.specs.declared.Found.{Found}
-use Rattle.normalize_identifier.specs.declared.Found.TheVariants.{At, Nothing}
-use Rattle.normalize_identifier.specs.Search.{parts, labels_of}
+use Rattle.normalize_identifier.specs.Search.{Found, parts, labels_of}
 use Rattle.machine.specs.declared.Fixed.{Fixed}
 use Rattle.machine.specs.Outcome.{go, ◌>>=◌, need}
 use Rattle.machine.specs.State.{State, Footnote, Call}
@@ -112,10 +106,10 @@ module _ {k : Kept} {fixed : Fixed} {text work footnotes calls : List ℕ} {i at
   called-outside h = record { writes = λ t p q. absurd (omega (arith, (call-label i a b t p).inside)) }
 
   module _ {found : Found} (g : FindsFootnote k text from to footnotes found) where
-    pub called-nothing : found ≡ Nothing → WritesCall k fixed text work footnotes calls i d at d at
+    pub called-nothing : found ≡ None → WritesCall k fixed text work footnotes calls i d at d at
     called-nothing h = record { writes = λ t p q. (let z = rw h at (body-found i a b t p g q) in never z) }
 
-    pub called-found : {times j r : ℕ} {f : List ℕ} → found ≡ At j → TellsTimes calls i times → WritesFound fixed (take (to - from) (drop from text)) times work footnotes j d at f r
+    pub called-found : {times j r : ℕ} {f : List ℕ} → found ≡ Some j → TellsTimes calls i times → WritesFound fixed (take (to - from) (drop from text)) times work footnotes j d at f r
         → WritesCall k fixed text work footnotes calls i d at f r
     called-found {times} {j} h n w = record {
       writes = λ {s} {c} {body} t p q.

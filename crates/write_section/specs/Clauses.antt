@@ -4,15 +4,12 @@ use Rattle.std.proofs.Math.Option.{some}
 use Rattle.std.proofs.Math.ListN.{get_elem?}
 use Rattle.regions.specs.Regions.{region_at}
 use Rattle.regions.specs.Sizes.{region_size, kept_at, work_size}
-use Rattle.normalize_identifier.specs.declared.Found.{Found}
-use Rattle.normalize_identifier.specs.Search.{first_same}
 use Rattle.machine.specs.declared.Fixed.{Fixed}
 use Rattle.machine.specs.Outcome.{go}
 use Rattle.machine.specs.State.{State, Call}
-use Rattle.machine.specs.Section.{footnote_labels, body_of, footnote_section}
-use Rattle.machine.specs.Totals.{kept}
+use Rattle.machine.specs.Section.{body_of, footnote_section}
 use Rattle.state_kept.specs.declared.Kept.{Kept}
-use Rattle.state_kept.specs.Kept.{column, LabelIs, Piece, tables, InTables}
+use Rattle.state_kept.specs.Kept.{column, Piece, tables, InTables}
 use Rattle.state_buffers.specs.Stand.{Holds}
 use Rattle.state_kept.specs.Sizes.{note_rows}
 use Rattle.write_section.specs.Pages.{item_page, items_page}

@@ -5,14 +5,14 @@
 ghost use Rattle.std.specs.Prelude.{◌≤◌, ◌++◌, length};
 ghost use Rattle.lent.specs.Fill.{Filled};
 ghost use Rattle.machine.specs.Buffers.{ending_bytes};
-ghost use Rattle.machine.specs.Footnote.{address_of};
 ghost use Rattle.machine.specs.Section.{backreferences};
+ghost use Rattle.write_footnote.specs.Address.{address_text};
 ghost use Rattle.write_section.specs.Pages.{ended, heading_text, head_page, tail_text, item_start, split_body, behind_body, body_page, item_end, item_page};
 ghost use Rattle.write_section.specs.Clauses.{WritesSection, Writes, WritesFound, WritesCall, WritesItems};
 
 use machine::{Ending, Fixed};
-use normalize_identifier::Found;
 use state_kept::Kept;
+use write_footnote::Address;
 
 // Writes the section behind the page that stands in `out` up to `at`.
 pub fn footnote_section(
@@ -90,24 +90,17 @@ fn put_tail(ending: Ending, out: &mut [u8], at: usize) -> usize
 
 // ---- an item
 
-fn put_item_start(
-    ending: Ending,
-    label: &[u8],
-    apostrophes: bool,
-    out: &mut [u8],
-    at: usize,
-) -> usize
-    ensures { Filled out.old at (item_start ending (address_of apostrophes label.now)) out.new result }
+fn put_item_start(ending: Ending, address: Address, out: &mut [u8], at: usize) -> usize
+    ensures { Filled out.old at (item_start ending (address_text address.entry)) out.new result }
 {
     let p = put_on_line(ending, b"<li id=\"user-content-fn-", out, at);
-    let q = write_footnote::put_address(label, apostrophes, out, p);
+    let q = write_footnote::put_address(address, out, p);
     put_line(ending, b"\">", out, q)
 }
 
 // The body up to a place, the way back behind a space, and the rest of the body.
 fn put_split(
-    label: &[u8],
-    apostrophes: bool,
+    address: Address,
     times: usize,
     body: &[u8],
     cut: usize,
@@ -115,49 +108,46 @@ fn put_split(
     at: usize,
 ) -> usize
     requires { cut ≤ length body.now }
-    ensures { Filled out.old at (split_body body.now cut (backreferences (address_of apostrophes label.now) times)) out.new result }
+    ensures { Filled out.old at (split_body body.now cut (backreferences (address_text address.entry) times)) out.new result }
 {
-    let before = &body[0..cut];
-    let after = &body[cut..];
+    let (before, after) = body.split_at(cut);
     let p = lent::put_all(out, at, before);
     let q = lent::put(out, p, b' ');
-    let m = write_footnote::put_backreferences(label, apostrophes, times, out, q);
+    let m = write_footnote::put_backreferences(address, times, out, q);
     lent::put_all(out, m, after)
 }
 
 fn put_behind(
     ending: Ending,
-    label: &[u8],
-    apostrophes: bool,
+    address: Address,
     times: usize,
     body: &[u8],
     out: &mut [u8],
     at: usize,
 ) -> usize
-    ensures { Writes (behind_body ending body.now (backreferences (address_of apostrophes label.now) times)) out.old at out.new result }
+    ensures { Writes (behind_body ending body.now (backreferences (address_text address.entry) times)) out.old at out.new result }
 {
     let p = lent::put_all(out, at, body);
     let q = end_line(ending, out, p);
-    write_footnote::put_backreferences(label, apostrophes, times, out, q)
+    write_footnote::put_backreferences(address, times, out, q)
 }
 
 // The way back goes into a paragraph at the end, or behind the body.
 fn put_body(
     ending: Ending,
-    label: &[u8],
-    apostrophes: bool,
+    address: Address,
     times: usize,
     body: &[u8],
     out: &mut [u8],
     at: usize,
 ) -> usize
-    ensures { Writes (body_page ending body.now (backreferences (address_of apostrophes label.now) times)) out.old at out.new result }
+    ensures { Writes (body_page ending body.now (backreferences (address_text address.entry) times)) out.old at out.new result }
 {
     if write_footnote::ends_paragraph(body) {
         let end = write_footnote::body_end(body);
-        return put_split(label, apostrophes, times, body, end - 4, out, at);
+        return put_split(address, times, body, end - 4, out, at);
     }
-    put_behind(ending, label, apostrophes, times, body, out, at)
+    put_behind(ending, address, times, body, out, at)
 }
 
 fn put_item_end(ending: Ending, out: &mut [u8], at: usize) -> usize
@@ -178,9 +168,12 @@ fn put_item(
     ensures { Writes (item_page fixed label.now times body.now) out.old at out.new result }
 {
     let ending = fixed.ending;
-    let apostrophes = fixed.apostrophes;
-    let p = put_item_start(ending, label, apostrophes, out, at);
-    let q = put_body(ending, label, apostrophes, times, body, out, p);
+    let address = Address {
+        label,
+        apostrophes: fixed.apostrophes,
+    };
+    let p = put_item_start(ending, address, out, at);
+    let q = put_body(ending, address, times, body, out, p);
     put_item_end(ending, out, q)
 }
 
@@ -242,8 +235,8 @@ fn put_called(
     let label = &text[from..to];
     let found = state_kept::find_footnote(k, text, from, to, footnotes);
     match found {
-        Found::At(j) => put_found(fixed, label, times, work, footnotes, j, out, at),
-        Found::Nothing => at,
+        Some(j) => put_found(fixed, label, times, work, footnotes, j, out, at),
+        None => at,
     }
 }
 
@@ -259,12 +252,9 @@ fn put_items(
 ) -> usize
     ensures { WritesItems k fixed text.now work.now footnotes.now calls.now out.old at out.new result }
 {
-    let n = k.calls;
     let mut r = at;
-    let mut i: usize = 0;
-    while i < n {
+    for i in 0..k.calls {
         r = put_called(k, fixed, text, work, footnotes, calls, i, out, r);
-        i += 1;
     }
     r
 }

@@ -1,8 +1,7 @@
--- The loop's invariant: the first `lane` lanes are added. Assumes nothing.
-use Prim.Native.Nat.{◌-◌}
+-- A lane more is added. Assumes nothing.
+use Rattle.std.proofs.Common.{rules}
 use Rattle.bundle_block.specs.Lanes.{added}
-use Rattle.bundle_block.proofs.Lanes.{behind, lane-fits, lane-added, lanes_end}
-use borrow.Author.Rules.{rules}
+use Rattle.bundle_block.proofs.Lanes.{lane-fits, lane-added}
 use Rattle.bundle_block.proofs.add_lanes.Goals as goal
 
 pub loop-lane-init : goal.loop-lane-init
@@ -14,6 +13,3 @@ overflow_add-lanes c = search lane-fits
 
 pub loop-lane-preserved : goal.loop-lane-preserved
 loop-lane-preserved c = search (lane-added, rules)
-
-pub returns : goal.returns
-returns c = search (lanes_end, behind)

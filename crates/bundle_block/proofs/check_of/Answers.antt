@@ -1,16 +1,9 @@
--- The loop's invariant: the sum so far and that from `place` on are the whole. Assumes nothing.
-use Prim.Native.Nat.{◌-◌}
-use Rattle.bundle_block.proofs.Check.{whole-rows, rows-weighed, weigh-one, product-fits, weighed-fits, weigh-end, check-fits}
+-- Behind whole rows a byte more, and the last. Assumes nothing.
+use Rattle.bundle_block.proofs.Check.{rows-weighed, weigh-one, weighed-fits, weigh-end, check-fits}
 use Rattle.bundle_block.proofs.check_of.Goals as goal
-
-pub weigh_parts-sum-requires : goal.weigh_parts-sum-requires
-weigh_parts-sum-requires c = search whole-rows
 
 pub loop-place-init : goal.loop-place-init
 loop-place-init c = search rows-weighed
-
-pub overflow_mul-sum : goal.overflow_mul-sum
-overflow_mul-sum c = search (product-fits, check-fits)
 
 pub overflow_add-sum-in-loop-place : goal.overflow_add-sum-in-loop-place
 overflow_add-sum-in-loop-place c = search (weighed-fits, check-fits)

@@ -1,12 +1,7 @@
--- The loop's invariant: the sum so far and that from `lane` on are the whole. Assumes nothing.
-use mathlib.Core.Path.{◌≡◌}
-use Prim.Native.Nat.{◌+◌, ◌-◌, ◌≤◌}
-use lib.ListN.{drop}
+-- The loop's invariant: the sum so far and that from `n` on are the whole. Assumes nothing.
+use Rattle.std.proofs.Common.{◌≡◌, ◌+◌, drop}
 use Rattle.bundle_block.specs.Lanes.{sum_of}
 use Rattle.bundle_block.proofs.sum_lanes.Given as goal
 
-abbrev pub invariant-loop-lane : goal.invariant-loop-lane
-invariant-loop-lane l = (l.lane ≤ 16) × (l.sum + sum_of (drop l.lane l.lanes) ≡ sum_of l.lanes)
-
-abbrev pub decreases-loop-lane : goal.decreases-loop-lane
-decreases-loop-lane l = 16 - l.lane
+abbrev pub invariant-loop-n : goal.invariant-loop-n
+invariant-loop-n l = (l.sum + sum_of (drop l.n-index l.lanes) ≡ sum_of l.lanes)

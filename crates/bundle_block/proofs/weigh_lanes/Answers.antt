@@ -1,12 +1,8 @@
--- The loop's invariant: the sum so far and that from `lane` on are the whole. Assumes nothing.
-use Prim.Native.Nat.{◌-◌}
-use Rattle.bundle_block.proofs.Check.{weigh-one, product-fits, weighed-fits, weigh-end}
+-- A lane more, and the last. Assumes nothing.
+use Rattle.std.proofs.Common.{rules}
+use Rattle.bundle_block.proofs.Check.{weigh-one, weighed-fits, weigh-end}
 use Rattle.bundle_block.proofs.Lanes.{behind}
-use borrow.Author.Rules.{rules}
 use Rattle.bundle_block.proofs.weigh_lanes.Goals as goal
-
-pub overflow_mul-sum : goal.overflow_mul-sum
-overflow_mul-sum c = search (product-fits, rules)
 
 pub overflow_add-sum : goal.overflow_add-sum
 overflow_add-sum c = search (weighed-fits, rules)

@@ -1,12 +1,13 @@
--- The loop's invariant: the sum so far and that from `at` on are the whole. Assumes nothing.
-use mathlib.Core.Path.{◌≡◌}
-use Prim.Native.Nat.{◌+◌, ◌-◌, ◌%◌, ◌≤◌}
-use lib.ListN.{length, drop}
+-- The loop's invariant: the sum so far and that of the rows that are left are the whole. Assumes nothing.
+use Rattle.std.proofs.Common.{◌≡◌, ◌+◌, ◌%◌, length}
+use Rattle.std.specs.Slice.Iter.{chunks_rest, chunks_size}
 use Rattle.bundle_block.specs.Block.{weighed, check_of}
 use Rattle.bundle_block.proofs.weigh_parts.Given as goal
 
-abbrev pub invariant-loop-at : goal.invariant-loop-at
-invariant-loop-at l = (l.at ≤ length l.rows) × (l.at % 16 ≡ 0) × (l.sum + weighed l.at (drop l.at l.rows) ≡ check_of l.rows)
-
-abbrev pub decreases-loop-at : goal.decreases-loop-at
-decreases-loop-at l = length l.rows - l.at
+abbrev pub invariant-loop-part : goal.invariant-loop-part
+invariant-loop-part l = record {
+  size : chunks_size l.part-iterator ≡ 256;
+  place : l.place + length (chunks_rest l.part-iterator) ≡ length l.rows;
+  whole : length (chunks_rest l.part-iterator) % 16 ≡ 0;
+  sums : l.sum + weighed l.place (chunks_rest l.part-iterator) ≡ check_of l.rows;
+}

@@ -1,9 +1,12 @@
--- The loop's invariant: the rows from `at` on are counted in the lanes. Assumes nothing.
+-- The loop's invariant: the rows that came are counted in the lanes. Assumes nothing.
+use Rattle.std.proofs.Common.{◌≡◌, length, take}
+use Rattle.std.specs.Slice.Iter.{rchunks_rest, rchunks_size}
 use Rattle.bundle_block.proofs.Counted.{Counted}
 use Rattle.bundle_block.proofs.weigh_rows.Given as goal
 
-abbrev pub invariant-loop-at : goal.invariant-loop-at
-invariant-loop-at l = Counted l.rows l.place l.at l.once l.by_row
-
-abbrev pub decreases-loop-at : goal.decreases-loop-at
-decreases-loop-at l = l.at
+abbrev pub invariant-loop-row : goal.invariant-loop-row
+invariant-loop-row l = record {
+  size : rchunks_size l.row-iterator ≡ 16;
+  front : rchunks_rest l.row-iterator ≡ take (length (rchunks_rest l.row-iterator)) l.rows;
+  counted : Counted l.rows l.place (length (rchunks_rest l.row-iterator)) l.once l.by_row;
+}

@@ -1,13 +1,10 @@
 -- By the run. Assumes nothing.
-use Rattle.bundle_known.proofs.Laws.{events-stopped, events-inside, events-took}
-use native.Mathlib.Omega.{arith}
+use Rattle.bundle_block.proofs.Block.{handed}
+use Rattle.bundle_known.proofs.Laws.{events-stopped, events-took}
 use Rattle.bundle_known.proofs.take_events.Goals as goal
 
-pub overflow_add-result : goal.overflow_add-result
-overflow_add-result c = omega (arith, events-inside c.args.k c.args.bytes.now c.args.from _ _ _ c.requires c.index.ensures.0 c.take_run-run.ensures c.in-Took.is)
+pub returns-in_err-run : goal.returns-in_err-run
+returns-in_err-run c = rw (handed _ c.from_residual.ensures) (search (events-stopped, c.in_err-run.was))
 
-pub returns-in-Stopped : goal.returns-in-Stopped
-returns-in-Stopped c = search events-stopped
-
-pub returns-in-Took : goal.returns-in-Took
-returns-in-Took c = search events-took
+pub returns : goal.returns
+returns c = search (events-took, c.in_ok-run.was)

@@ -2,8 +2,8 @@
 use Rattle.bundle_parts.proofs.Calls.{ended-done, ended-finished, ended-short}
 use Rattle.bundle_parts.proofs.end_state.Goals as goal
 
-pub returns-in_default : goal.returns-in_default
-returns-in_default c = search ended-done
+pub returns-then-is_some : goal.returns-then-is_some
+returns-then-is_some c = search ended-done
 
 pub returns-then-is_roomy : goal.returns-then-is_roomy
 returns-then-is_roomy c = search ended-finished

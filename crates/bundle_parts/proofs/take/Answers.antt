@@ -11,8 +11,8 @@ slice_bounds-keep-start c = search part-within
 pub keep-requires : goal.keep-requires
 keep-requires c = search part_left
 
-pub returns-in-Stop : goal.returns-in-Stop
-returns-in-Stop c = search part-stops
+pub returns-in-Err : goal.returns-in-Err
+returns-in-Err c = search part-stops
 
-pub returns-in-Next : goal.returns-in-Next
-returns-in-Next c = search part-kept
+pub returns-in-Ok : goal.returns-in-Ok
+returns-in-Ok c = search part-kept

@@ -11,8 +11,8 @@ fill_events-requires c = search (events-there, events-fit)
 pub header-requires : goal.header-requires
 header-requires c = search header-there
 
-pub returns-in-Bad : goal.returns-in-Bad
-returns-in-Bad c = search read-bad
+pub returns-in-Err : goal.returns-in-Err
+returns-in-Err c = search read-bad
 
-pub returns-in-Good : goal.returns-in-Good
-returns-in-Good c = search read-good
+pub returns-in-Ok : goal.returns-in-Ok
+returns-in-Ok c = search read-good

@@ -1,6 +1,6 @@
--- The loop's invariant: what is left is to append what the blocks from `i` on hold. Assumes nothing.
+-- None so far, what a block more holds, and the last. Assumes nothing.
 use Rattle.bundle_run.proofs.Run.{held_none, held-step, held-end}
-use borrow.Author.Rules.{rules}
+use Rattle.std.proofs.Common.{rules}
 use Rattle.bundle_run.proofs.copy_run.Goals as goal
 
 pub loop-i-init : goal.loop-i-init

@@ -1,12 +1,8 @@
 -- The loop's invariant: what is left is to append what the blocks from `i` on hold. Assumes nothing.
-use Prim.Native.Nat.{◌-◌, ◌*◌, ◌≤◌}
-use lib.ListN.{drop}
-use Rattle.lent.proofs.Laws.{Left}
+use Rattle.std.proofs.Common.{◌-◌, ◌*◌, drop}
+use Rattle.lent.proofs.Writing.{Due}
 use Rattle.bundle_run.specs.Run.{held_in}
 use Rattle.bundle_run.proofs.copy_run.Given as goal
 
 abbrev pub invariant-loop-i : goal.invariant-loop-i
-invariant-loop-i l = (l.i ≤ l.count) × Left l.initial.out l.at (held_in l.room l.count l.used l.blocks) l.out l.end (held_in l.room (l.count - l.i) l.left (drop (512 * l.i) l.blocks))
-
-abbrev pub decreases-loop-i : goal.decreases-loop-i
-decreases-loop-i l = l.count - l.i
+invariant-loop-i l = Due (held_in l.room l.count l.used l.blocks) l.initial.out (held_in l.room (l.count - l.i) l.left (drop (512 * l.i) l.blocks)) l.out

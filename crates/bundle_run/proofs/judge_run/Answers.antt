@@ -1,13 +1,15 @@
--- The loop's invariant: the verdict from `index` on is that on the whole run. Assumes nothing.
+-- A block that is refused, one more, and the last. Assumes nothing.
+use Rattle.bundle_block.proofs.Block.{handed-on}
 use Rattle.bundle_run.proofs.Run.{run-bad, run-good, run_end}
-use borrow.Author.Rules.{rules}
 use Rattle.bundle_run.proofs.judge_run.Goals as goal
 
-pub returns-in_default : goal.returns-in_default
-returns-in_default c = search run-bad
+pub returns-in_err-judge_block : goal.returns-in_err-judge_block
+returns-in_err-judge_block c =
+    handed-on _ c.from_residual.ensures _ (run-bad _ _ _ c.args.start _ _ _ c.args.blocks.now c.loop-index.auto.index c.loop-index-test.true c.min-here.ensures c.judge_block.ensures c.loop-index.invariant (c.in_err-judge_block.was {u = tt}))
 
 pub loop-index-preserved : goal.loop-index-preserved
-loop-index-preserved c = (search rules, search rules, search rules, run-good _ _ _ _ _ _ c.loop-index.at c.args.blocks.now c.loop-index-test.true c.least-here.ensures c.judge_block-verdict.ensures c.loop-index.invariant.3 c.in-Good.is)
+loop-index-preserved c =
+    run-good _ _ _ c.args.start _ _ _ c.args.blocks.now c.loop-index.auto.index c.loop-index-test.true c.min-here.ensures c.judge_block.ensures c.loop-index.invariant (c.in_ok-judge_block.was {u = tt})
 
 pub returns : goal.returns
 returns c = search run_end

@@ -1,6 +1,6 @@
 -- All is cleared. Assumes nothing.
 use Rattle.bundle_writer.proofs.Call.{cleared}
-use borrow.Author.Rules.{rules}
+use Rattle.std.proofs.Common.{rules}
 use Rattle.bundle_writer.proofs.refuse.Goals as goal
 
 pub returns : goal.returns

@@ -3,8 +3,8 @@ use Rattle.call_build_answer.proofs.Laws.{enough}
 use Rattle.call_build.proofs.Laws.{refused, built}
 use Rattle.call_build.proofs.build.Goals as goal
 
-pub returns-in_default : goal.returns-in_default
-returns-in_default c = search refused
+pub returns-in-Err : goal.returns-in-Err
+returns-in-Err c = search refused
 
 pub render-rendered-requires : goal.render-rendered-requires
 render-rendered-requires c = search enough

@@ -1,9 +1,6 @@
 -- Refused, or written. Assumes nothing.
-use Rattle.call_links_answer.proofs.Good.{refused, yes}
+use Rattle.call_links_answer.proofs.Good.{refused}
 use Rattle.call_links.proofs.sanitize_links.Goals as goal
 
-pub write-requires : goal.write-requires
-write-requires c = search yes
-
-pub returns-in-Refused : goal.returns-in-Refused
-returns-in-Refused c = search refused
+pub returns-in-Err : goal.returns-in-Err
+returns-in-Err c = search refused

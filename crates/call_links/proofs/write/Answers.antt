@@ -1,7 +1,6 @@
--- The loop's invariant: what was written and what is left to write are the whole list. Assumes nothing.
-use Prim.Native.Nat.{◌-◌}
+-- A URL is inside the text, and refused for its room, or written with its length. Assumes nothing.
 use Rattle.call_links.proofs.Laws.{begins, ends-after, ends-within, is_word, has-place, goes, no_room_lem, ended}
-use borrow.Author.Rules.{rules}
+use Rattle.std.proofs.Common.{rules}
 use Rattle.call_links.proofs.write.Goals as goal
 
 pub loop-i-init : goal.loop-i-init
@@ -26,7 +25,7 @@ pub bounds-lengths-i : goal.bounds-lengths-i
 bounds-lengths-i c = search has-place
 
 pub loop-i-preserved : goal.loop-i-preserved
-loop-i-preserved c = (search rules, search rules, search rules, search goes)
+loop-i-preserved c = (search rules, search rules, search goes)
 
 pub returns : goal.returns
 returns c = search ended

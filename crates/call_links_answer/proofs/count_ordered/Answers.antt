@@ -1,5 +1,4 @@
--- The loop's invariant: the URLs passed, and those from `i` on without a fault, are all of them. Assumes nothing.
-use Prim.Native.Nat.{◌-◌}
+-- A fault ends the count, any other URL adds one, and at the end all are counted. Assumes nothing.
 use Rattle.call_links_answer.proofs.Counts.{stops, goes_on, all-ordered}
 use Rattle.call_links_answer.proofs.count_ordered.Goals as goal
 

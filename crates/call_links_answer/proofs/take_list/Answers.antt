@@ -14,8 +14,8 @@ returns-then-in_order-ends c = search end-wrong
 pub returns-then-not-is_utf8 : goal.returns-then-not-is_utf8
 returns-then-not-is_utf8 c = search not-utf8
 
-pub returns-then-whole-ends : goal.returns-then-whole-ends
-returns-then-whole-ends c = search cut
+pub returns-in-Some : goal.returns-in-Some
+returns-in-Some c = search cut
 
 pub returns : goal.returns
 returns c = search taken

@@ -2,8 +2,8 @@
 use Rattle.call_text_answer.proofs.Laws.{too_long, taken, not-utf8}
 use Rattle.call_text_answer.proofs.take_text.Goals as goal
 
-pub returns-then-text-gt64000 : goal.returns-then-text-gt64000
-returns-then-text-gt64000 c = search too_long
+pub returns-then-text-gt-MOST_TEXT : goal.returns-then-text-gt-MOST_TEXT
+returns-then-text-gt-MOST_TEXT c = search too_long
 
 pub returns-then-is_utf8 : goal.returns-then-is_utf8
 returns-then-is_utf8 c = search taken

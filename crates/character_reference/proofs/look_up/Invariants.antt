@@ -1,5 +1,5 @@
--- The loop's invariant: the name can only be one of those from `low` up to `high`. Assumes nothing.
-use Prim.Native.Nat.{◌-◌}
+-- The name can only be one of those from `low` up to `high`. Assumes nothing.
+use Rattle.std.proofs.Common.{◌-◌}
 use Rattle.character_reference.proofs.Search.{Between}
 use Rattle.character_reference.proofs.look_up.Given as goal
 

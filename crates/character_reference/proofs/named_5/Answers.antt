@@ -1,5 +1,5 @@
 -- The packed table is the definition's, by computation. Assumes nothing.
-use mathlib.Core.Path.{refl}
+use Rattle.std.proofs.Common.{refl}
 use Rattle.character_reference.specs.Names.{names}
 use Rattle.character_reference.specs.Reference.{names_of, named_of}
 use Rattle.character_reference.specs.Table.{unpacked_from, is_packed_from}

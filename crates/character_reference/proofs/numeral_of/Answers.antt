@@ -1,7 +1,6 @@
--- The loop's invariant: the digits left, behind those that say `n`, make the whole answer. Assumes nothing.
-use Prim.Native.Nat.{◌-◌}
+-- No digit or too many; a digit more; none left. Assumes nothing.
+use Rattle.std.proofs.Common.{rules}
 use Rattle.character_reference.proofs.Numbers.{none-there, too_many, all_left, no_digit, next-digit, no-digit-left, grows, product-fits, sum_fits}
-use borrow.Author.Rules.{rules}
 use Rattle.character_reference.proofs.numeral_of.Goals as goal
 
 pub returns-then-s-lt1 : goal.returns-then-s-lt1
@@ -10,8 +9,8 @@ returns-then-s-lt1 c = search none-there
 pub returns-then-most-s : goal.returns-then-most-s
 returns-then-most-s c = search too_many
 
-pub loop-i-init : goal.loop-i-init
-loop-i-init c = search (all_left, rules)
+pub loop-b-init : goal.loop-b-init
+loop-b-init c = search (all_left, rules)
 
 pub returns-then-base-v : goal.returns-then-base-v
 returns-then-base-v c = search no_digit
@@ -22,8 +21,8 @@ overflow_mul-n c = search product-fits
 pub overflow_add-n : goal.overflow_add-n
 overflow_add-n c = search sum_fits
 
-pub loop-i-preserved : goal.loop-i-preserved
-loop-i-preserved c = search (next-digit, grows)
+pub loop-b-preserved : goal.loop-b-preserved
+loop-b-preserved c = search (next-digit, grows)
 
 pub returns : goal.returns
 returns c = search no-digit-left

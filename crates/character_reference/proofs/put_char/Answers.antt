@@ -1,18 +1,18 @@
--- By the character's length. Assumes nothing.
+-- By the character's length.
 use Rattle.character_reference.proofs.Put.{one_byte, two_bytes, three-bytes, four_bytes, no-character}
 use Rattle.character_reference.proofs.put_char.Goals as goal
 
-pub returns-then-c-lt128 : goal.returns-then-c-lt128
-returns-then-c-lt128 c = search one_byte
+pub returns-in-0-to-127 : goal.returns-in-0-to-127
+returns-in-0-to-127 c = search one_byte
 
-pub returns-then-c-lt2048 : goal.returns-then-c-lt2048
-returns-then-c-lt2048 c = search two_bytes
+pub returns-in-128-to-2047 : goal.returns-in-128-to-2047
+returns-in-128-to-2047 c = search two_bytes
 
-pub returns-then-c-lt65536 : goal.returns-then-c-lt65536
-returns-then-c-lt65536 c = search three-bytes
+pub returns-in-2048-to-65535 : goal.returns-in-2048-to-65535
+returns-in-2048-to-65535 c = search three-bytes
 
-pub returns-then-c-lt1114112 : goal.returns-then-c-lt1114112
-returns-then-c-lt1114112 c = search four_bytes
+pub returns-in-65536-to-1114111 : goal.returns-in-65536-to-1114111
+returns-in-65536-to-1114111 c = search four_bytes
 
-pub returns : goal.returns
-returns c = search no-character
+pub returns-in_default : goal.returns-in_default
+returns-in_default c = search no-character

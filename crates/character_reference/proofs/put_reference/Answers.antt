@@ -1,9 +1,9 @@
--- By what `value_of` says. Assumes nothing.
+-- By what `value_of` says.
 use Rattle.character_reference.proofs.Laws.{writes, writes_nothing}
 use Rattle.character_reference.proofs.put_reference.Goals as goal
 
-pub returns-in-Code : goal.returns-in-Code
-returns-in-Code c = search writes
+pub returns-in-Some : goal.returns-in-Some
+returns-in-Some c = search writes
 
-pub returns-in-Broken : goal.returns-in-Broken
-returns-in-Broken c = search writes_nothing
+pub returns-in_default : goal.returns-in_default
+returns-in_default c = search writes_nothing

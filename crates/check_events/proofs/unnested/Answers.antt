@@ -1,6 +1,6 @@
--- The loop's invariant: what is found from `later` on is what is found at all. Assumes nothing.
+-- The first event at fault, or none. Assumes nothing.
+use Rattle.std.proofs.Common.{rules}
 use Rattle.check_events.proofs.Walked.{fields_at, fields-next, fields-end}
-use borrow.Author.Rules.{rules}
 use Rattle.check_events.proofs.unnested.Goals as goal
 
 pub returns-then-not-fields_hold : goal.returns-then-not-fields_hold

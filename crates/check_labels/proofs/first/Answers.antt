@@ -1,16 +1,14 @@
--- The loop's invariant: the first from `i` on is the first of all. Assumes nothing.
-use Rattle.check_labels.proofs.Steps.{first_found, first-end}
-use Rattle.check_labels.proofs.Uses.{use-first, use-next}
+-- A use that does not hold, one that does, or no use. Assumes nothing.
+use Rattle.check_labels.proofs.Steps.{first_more, first_found, first-end}
+use Rattle.check_labels.proofs.Uses.{use-more}
 use Rattle.check_labels.proofs.first.Goals as goal
-
-pub loop-i-init : goal.loop-i-init
-loop-i-init c = search use-first
+use Rattle.check_labels.proofs.first.Goals.{else-is_use-via-then-is_use+else-not-holds, else-is_use-via-else-is_use}
 
 pub loop-i-preserved : goal.loop-i-preserved
-loop-i-preserved c = search use-next
+loop-i-preserved c = elim c.else-is_use.branch [ else-is_use-via-then-is_use+else-not-holds w ↦ search first_more | else-is_use-via-else-is_use w ↦ search use-more ]
 
-pub returns-in-loop-i : goal.returns-in-loop-i
-returns-in-loop-i c = search first_found
+pub returns-then-not-holds : goal.returns-then-not-holds
+returns-then-not-holds c = search first_found
 
 pub returns : goal.returns
 returns c = search first-end

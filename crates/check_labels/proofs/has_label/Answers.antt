@@ -1,9 +1,9 @@
--- The loop's invariant: the label is among those left exactly when it is among all. Assumes nothing.
-use Rattle.check_labels.proofs.Next.{search-start, search-skipped, search-found, search-differs, search-end}
+-- No label, one of another signature, the label itself, or another one. Assumes nothing.
+use Rattle.check_labels.proofs.Next.{search-other, search-skipped, search-found, search-differs, search-end}
 use Rattle.check_labels.proofs.has_label.Goals as goal
 
-pub loop-i-init : goal.loop-i-init
-loop-i-init c = search search-start
+pub loop-i-preserved-then-not-is_label : goal.loop-i-preserved-then-not-is_label
+loop-i-preserved-then-not-is_label c = search search-other
 
 pub loop-i-preserved-then-skips : goal.loop-i-preserved-then-skips
 loop-i-preserved-then-skips c = search search-skipped

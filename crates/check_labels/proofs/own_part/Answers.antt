@@ -1,4 +1,4 @@
--- The loop's invariant: the part from `i` on is the part sought. Assumes nothing.
+-- Each turn is one of the definition's. Assumes nothing.
 use Rattle.check_labels.proofs.Steps.{turn-depth, own_on, own-found, own_out, own-end}
 use Rattle.check_labels.proofs.own_part.Goals as goal
 

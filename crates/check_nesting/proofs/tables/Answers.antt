@@ -1,5 +1,5 @@
 -- The tables are tested here, once. Assumes nothing.
-use mathlib.Core.Path.{refl}
+use Rattle.std.proofs.Common.{refl}
 use Rattle.check_nesting.specs.Grammar.{holds, rules}
 use Rattle.check_nesting.specs.Pass.{turn}
 use Rattle.check_nesting.specs.Tables.{state, states}

@@ -1,18 +1,9 @@
--- By the length, then by the bytes. Assumes nothing.
-use Rattle.check_slices.proofs.Rules.{line-feed, or-return, return-and-feed, no_return, other_length}
+-- Two bytes of which the first is no CR, or more. Assumes nothing.
+use Rattle.check_slices.proofs.Rules.{no_return, too-long}
 use Rattle.check_slices.proofs.is_ending.Goals as goal
 
-pub returns-then-s-eq10 : goal.returns-then-s-eq10
-returns-then-s-eq10 c = search line-feed
+pub returns-else-a-eq13 : goal.returns-else-a-eq13
+returns-else-a-eq13 c = no_return c.args.s.now c.in-len2.len_at_least c.in-len2.len_below c.if-a-eq13.false
 
-pub returns-then-s-eq1 : goal.returns-then-s-eq1
-returns-then-s-eq1 c = search or-return
-
-pub returns-then-s-eq13 : goal.returns-then-s-eq13
-returns-then-s-eq13 c = search return-and-feed
-
-pub returns-then-s-eq2 : goal.returns-then-s-eq2
-returns-then-s-eq2 c = search no_return
-
-pub returns : goal.returns
-returns c = search other_length
+pub returns-in_default-2 : goal.returns-in_default-2
+returns-in_default-2 c = too-long c.args.s.now c.in_default.len_at_least

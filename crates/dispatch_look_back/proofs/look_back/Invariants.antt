@@ -4,6 +4,3 @@ use Rattle.dispatch_look_back.proofs.look_back.Given as goal
 
 abbrev pub invariant-loop-k : goal.invariant-loop-k
 invariant-loop-k l = Walks l.events l.initial.k l.k l.depth
-
-abbrev pub decreases-loop-k : goal.decreases-loop-k
-decreases-loop-k l = l.k

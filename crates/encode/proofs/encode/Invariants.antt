@@ -1,12 +1,8 @@
--- The loop's invariant: what is left is to append the bytes from `i` on. Assumes nothing.
-use Prim.Native.Nat.{◌-◌, ◌≤◌}
-use lib.ListN.{length, drop}
-use Rattle.lent.proofs.Laws.{Left}
+-- What is left is to append the blocks from the index on, and the rest.
+use Rattle.std.proofs.Common.{drop, ◌*◌}
+use Rattle.lent.proofs.Writing.{Due}
 use Rattle.encode.specs.Encode.{encode_of}
 use Rattle.encode.proofs.encode.Given as goal
 
-abbrev pub invariant-loop-i : goal.invariant-loop-i
-invariant-loop-i l = (l.i ≤ length l.value) × Left l.initial.out l.at (encode_of l.escaping l.value) l.out l.r (encode_of l.escaping (drop l.i l.value))
-
-abbrev pub decreases-loop-i : goal.decreases-loop-i
-decreases-loop-i l = length l.value - l.i
+abbrev pub invariant-loop-block : goal.invariant-loop-block
+invariant-loop-block l = Due (encode_of l.escaping l.value) l.initial.out (encode_of l.escaping (drop (l.block-index * 16) l.value)) l.out

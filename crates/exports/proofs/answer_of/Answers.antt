@@ -1,6 +1,6 @@
 -- An answer from its numbers. Assumes nothing.
 use Rattle.exports.proofs.Laws.{answer-bundle, answer-refused}
-use borrow.Author.Rules.{rules}
+use Rattle.std.proofs.Common.{rules}
 use Rattle.exports.proofs.answer_of.Goals as goal
 
 pub returns-then-a-eq0 : goal.returns-then-a-eq0

@@ -1,6 +1,6 @@
 -- The page's reader, told. Assumes nothing.
 use Rattle.exports.proofs.Laws.{starts}
-use borrow.Author.Rules.{rules}
+use Rattle.std.proofs.Common.{rules}
 use Rattle.exports.proofs.notepage_bundle_reader.Goals as goal
 
 pub returns : goal.returns

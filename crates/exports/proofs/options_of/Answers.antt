@@ -1,6 +1,6 @@
 -- Option by option. Assumes nothing.
 use Rattle.exports.proofs.Laws.{options}
-use borrow.Author.Rules.{rules}
+use Rattle.std.proofs.Common.{rules}
 use Rattle.exports.proofs.options_of.Goals as goal
 
 pub returns : goal.returns

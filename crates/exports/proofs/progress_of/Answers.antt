@@ -1,6 +1,6 @@
 -- The answer so far from its numbers. Assumes nothing.
 use Rattle.exports.proofs.Laws.{progress-more, progress-done}
-use borrow.Author.Rules.{rules}
+use Rattle.std.proofs.Common.{rules}
 use Rattle.exports.proofs.progress_of.Goals as goal
 
 pub returns-then-done-eq0 : goal.returns-then-done-eq0

@@ -1,6 +1,6 @@
 -- A reader from its numbers. Assumes nothing.
 use Rattle.exports.proofs.Laws.{reader-given}
-use borrow.Author.Rules.{rules}
+use Rattle.std.proofs.Common.{rules}
 use Rattle.exports.proofs.reader_of.Goals as goal
 
 pub returns : goal.returns

@@ -1,6 +1,6 @@
 -- A reader in numbers that stand for it. Assumes nothing.
 use Rattle.exports.proofs.Laws.{reader-told}
-use borrow.Author.Rules.{rules}
+use Rattle.std.proofs.Common.{rules}
 use Rattle.exports.proofs.tell_reader.Goals as goal
 
 pub returns : goal.returns

@@ -1,8 +1,6 @@
--- The loop's invariant: the first `i` bytes are filled in. Assumes nothing.
-use Prim.Native.Nat.{◌-◌}
+-- None so far, one more, or all. Assumes nothing.
+use Rattle.std.proofs.Common.{rules}
 use Rattle.lent.proofs.Laws.{copied, copy-none, copy-end}
-use borrow.Author.Rules.{rules}
-use Rattle.lent.proofs.Laws.{copied}
 use Rattle.lent.proofs.copy.Goals as goal
 
 pub loop-i-init : goal.loop-i-init

@@ -1,11 +1,8 @@
--- The loop's invariant: what is left is to append the bytes of what is left of the number. Assumes nothing.
-use Prim.Native.Nat.{◌-◌, ◌≤◌}
-use Rattle.lent.proofs.Laws.{Left}
+-- What is left is to write the bytes of what is left of the number.
+use Rattle.std.proofs.Common.{◌-◌}
+use Rattle.lent.proofs.Writing.{Due}
 use Rattle.little.specs.Little.{little}
 use Rattle.little.proofs.put.Given as goal
 
-abbrev pub invariant-loop-i : goal.invariant-loop-i
-invariant-loop-i l = (l.i ≤ l.size) × Left l.initial.out l.at (little l.size l.x) l.out l.end (little (l.size - l.i) l.rest)
-
-abbrev pub decreases-loop-i : goal.decreases-loop-i
-decreases-loop-i l = l.size - l.i
+abbrev pub invariant-loop : goal.invariant-loop
+invariant-loop l = Due (little l.size l.x) l.initial.out (little (l.size - l.counter) l.rest) l.out

@@ -1,6 +1,7 @@
--- Two halves of four bytes. Assumes nothing.
-use Rattle.little.proofs.Laws.{halves}
+-- By what `from_le_bytes` makes of the bytes. Assumes nothing.
+use Rattle.std.proofs.Common.{◌∙◌}
+use Rattle.little.proofs.Laws.{eight}
 use Rattle.little.proofs.u64_at.Goals as goal
 
 pub returns : goal.returns
-returns c = search (halves 4 4)
+returns c = c.from_le_bytes.ensures ∙ eight c.args.at c.args.s.now c.requires

@@ -1,6 +1,6 @@
 -- The two halves of sixteen marks. Assumes nothing.
 use Rattle.normalize_uri.proofs.Runs.{block-low, block-high}
-use borrow.Author.Rules.{rules}
+use Rattle.std.proofs.Common.{rules}
 use Rattle.normalize_uri.proofs.put_block.Goals as goal
 
 pub put_halves-requires : goal.put_halves-requires

@@ -1,6 +1,6 @@
 -- All eight, or the run before the first mark and then the rest. Assumes nothing.
 use Rattle.normalize_uri.proofs.Runs.{eight-whole, shift-less, rest-word, eight-run}
-use borrow.Author.Rules.{rules}
+use Rattle.std.proofs.Common.{rules}
 use Rattle.normalize_uri.proofs.put_eight.Goals as goal
 
 pub returns-then-word-eq0 : goal.returns-then-word-eq0

@@ -1,5 +1,5 @@
--- The loop's invariant: what is left is to append the part's bytes from `i` on. Assumes nothing.
-use Rattle.lent.proofs.Laws.{all, step, done}
+-- One more byte, or none left. Assumes nothing.
+use Rattle.lent.proofs.Writing.{all, step, done}
 use Rattle.normalize_uri.proofs.Laws.{part-more, part_end}
 use Rattle.normalize_uri.proofs.put_part.Goals as goal
 

@@ -1,8 +1,8 @@
--- The loop's invariant: what is left is to append the bytes from `i` on, whose marks are left too. Assumes nothing.
-use Rattle.lent.proofs.Laws.{all, step, done}
+-- One more byte, as it is or encoded by itself. Assumes nothing.
+use Rattle.lent.proofs.Writing.{all, step, done}
 use Rattle.normalize_uri.proofs.Laws.{part_end}
 use Rattle.normalize_uri.proofs.Runs.{rest-marks, rest-moved, rest-marked}
-use borrow.Author.Rules.{rules}
+use Rattle.std.proofs.Common.{rules}
 use Rattle.normalize_uri.proofs.put_rest.Goals as goal
 
 pub loop-i-init : goal.loop-i-init

@@ -1,8 +1,8 @@
--- The loop's invariant: what is left is to append the URL's bytes from `i` on. Assumes nothing.
-use Rattle.lent.proofs.Laws.{all, step, last}
+-- A window, a block, or the last bytes. Assumes nothing.
+use Rattle.lent.proofs.Writing.{all, step, last}
 use Rattle.normalize_uri.proofs.Laws.{block_more}
 use Rattle.normalize_uri.proofs.Runs.{window}
-use borrow.Author.Rules.{rules}
+use Rattle.std.proofs.Common.{rules}
 use Rattle.normalize_uri.proofs.put_url.Goals as goal
 
 pub loop-i-init : goal.loop-i-init

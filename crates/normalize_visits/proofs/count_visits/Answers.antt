@@ -1,7 +1,6 @@
--- The loop's invariant: the visits so far and those from `i` on are all of them. Assumes nothing.
-use native.Mathlib.Nat.{zero-add}
+-- One more visit, the last one, or none left. Assumes nothing.
+use Rattle.std.proofs.Common.{zero-add, rules}
 use Rattle.normalize_visits.proofs.Laws.{goes_on, ends, ended}
-use borrow.Author.Rules.{rules}
 use Rattle.normalize_visits.proofs.count_visits.Goals as goal
 
 pub loop-i-init : goal.loop-i-init

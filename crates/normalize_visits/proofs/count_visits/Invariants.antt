@@ -1,7 +1,5 @@
 -- The loop's invariant: the visits so far and those from `i` on are all of them. Assumes nothing.
-use mathlib.Core.Path.{◌≡◌}
-use Prim.Native.Nat.{◌+◌, ◌-◌, ◌≤◌}
-use lib.ListN.{length, drop}
+use Rattle.std.proofs.Common.{◌≡◌, ◌+◌, ◌-◌, ◌≤◌, length, drop}
 use Rattle.normalize_visits.specs.Visits.{visits_of}
 use Rattle.normalize_visits.proofs.count_visits.Given as goal
 

@@ -5,8 +5,8 @@ use Rattle.notepage.proofs.page_of.Goals as goal
 pub returns-in_default : goal.returns-in_default
 returns-in_default c = search end_more
 
-pub returns-in-Refused : goal.returns-in-Refused
-returns-in-Refused c = search end_refused
+pub returns-in-Err : goal.returns-in-Err
+returns-in-Err c = search end_refused
 
-pub returns-in-Bundle : goal.returns-in-Bundle
-returns-in-Bundle c = search end_read
+pub returns-in-Ok : goal.returns-in-Ok
+returns-in-Ok c = search end_read

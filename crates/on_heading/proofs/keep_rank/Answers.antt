@@ -1,12 +1,9 @@
 -- Where the slice is of the text; elsewhere the machine stops.
-use Rattle.on_heading.proofs.Ranks.{rank-back, rank-out, keeps-rank}
+use Rattle.on_heading.proofs.Ranks.{no-rank-kept, keeps-rank}
 use Rattle.on_heading.proofs.keep_rank.Goals as goal
 
-pub returns-then-to-from : goal.returns-then-to-from
-returns-then-to-from c = search rank-back
-
-pub returns-then-text-to : goal.returns-then-text-to
-returns-then-text-to c = search rank-out
+pub returns-in_default : goal.returns-in_default
+returns-in_default c = no-rank-kept _ _ c.in_default.ensures.lookup.0
 
 pub returns : goal.returns
-returns c = search keeps-rank
+returns c = keeps-rank _ _ c.in-Some.ensures.lookup.0.3 c.with_rank.ensures

@@ -1,12 +1,9 @@
 -- Where the slice is of the text; elsewhere the machine stops.
-use Rattle.on_inline.proofs.Autolinks.{mail-back, mail-out, mails}
+use Rattle.on_inline.proofs.Autolinks.{no-mail, mails}
 use Rattle.on_inline.proofs.push_mail.Goals as goal
 
-pub returns-then-to-from : goal.returns-then-to-from
-returns-then-to-from c = search mail-back
-
-pub returns-then-text-to : goal.returns-then-text-to
-returns-then-text-to c = search mail-out
+pub returns-in_default : goal.returns-in_default
+returns-in_default c = no-mail _ _ c.in_default.ensures.lookup.0
 
 pub returns : goal.returns
-returns c = search mails
+returns c = mails _ _ c.in-Some.ensures.lookup.0.2 c.push_mail-r.ensures

@@ -1,12 +1,9 @@
 -- Where the slice is of the text; elsewhere the machine stops.
-use Rattle.on_inline.proofs.Autolinks.{url-back, url-out, urls}
+use Rattle.on_inline.proofs.Autolinks.{no-url, urls}
 use Rattle.on_inline.proofs.push_url.Goals as goal
 
-pub returns-then-to-from : goal.returns-then-to-from
-returns-then-to-from c = search url-back
-
-pub returns-then-text-to : goal.returns-then-text-to
-returns-then-text-to c = search url-out
+pub returns-in_default : goal.returns-in_default
+returns-in_default c = no-url _ _ c.in_default.ensures.lookup.0
 
 pub returns : goal.returns
-returns c = search urls
+returns c = urls _ _ c.in-Some.ensures.lookup.0.2 c.push_url-r.ensures

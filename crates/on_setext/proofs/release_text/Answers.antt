@@ -4,8 +4,8 @@ use Rattle.on_setext.proofs.Released.{not-held, releases}
 use native.Mathlib.Omega.{arith}
 use Rattle.on_setext.proofs.release_text.Goals as goal
 
-pub returns-in-Unset : goal.returns-in-Unset
-returns-in-Unset c = not-held (search rules)
+pub returns-in-None : goal.returns-in-None
+returns-in-None c = not-held (search rules)
 
-pub returns-in-Is : goal.returns-in-Is
-returns-in-Is c = releases (search rules) c.push_piece-c.ensures (omega (arith, c.push_piece-c.auto)) c.release-r.ensures
+pub returns-in-Some : goal.returns-in-Some
+returns-in-Some c = releases (search rules) c.push_piece-c.ensures (omega (arith, c.push_piece-c.auto)) c.release-r.ensures

@@ -1,5 +1,5 @@
 -- The old digit is taken out, and the new one is put in.
-use borrow.Author.Rules.{rules}
+use Rattle.std.proofs.Common.{rules}
 use Rattle.packed.proofs.Digits.{is-there, still-fits, places}
 use Rattle.packed.proofs.with_digit.Goals as goal
 

@@ -1,5 +1,4 @@
--- The first i bytes are copied.
-use Prim.Native.Nat.{◌-◌}
+-- None so far, one more, or all.
 use Rattle.regions.proofs.Moves.{copying-none, copying-more, copying-end}
 use Rattle.regions.proofs.copy.Goals as goal
 

@@ -1,6 +1,6 @@
 -- By what is known. Assumes nothing.
 use Rattle.replay_log.proofs.Came.{steady-going, first-within, took-stopped, took-going, took-first, took-none}
-use borrow.Author.Rules.{rules}
+use Rattle.std.proofs.Common.{rules}
 use Rattle.replay_log.proofs.take.Goals as goal
 
 pub go-requires : goal.go-requires

@@ -1,13 +1,14 @@
 -- By the verdict on the block. Assumes nothing.
+use Rattle.std.proofs.Common.{rules}
+use Rattle.bundle_block.proofs.Block.{handed}
 use Rattle.replay_log.proofs.Blocks.{index-small, few-small, took-bad, took-good}
-use borrow.Author.Rules.{rules}
 use Rattle.replay_log.proofs.take_block.Goals as goal
 
 pub take_payload-requires : goal.take_payload-requires
-take_payload-requires c = search (index-small, few-small, rules)
+take_payload-requires c = search (index-small, few-small, rules, c.in_ok-judge_block.was)
 
-pub returns-in-Bad : goal.returns-in-Bad
-returns-in-Bad c = search (took-bad, rules)
+pub returns-in_err-judge_block : goal.returns-in_err-judge_block
+returns-in_err-judge_block c = rw (handed _ c.from_residual.ensures) (search (took-bad, rules, c.in_err-judge_block.was))
 
-pub returns-in-Good : goal.returns-in-Good
-returns-in-Good c = search (took-good, rules)
+pub returns : goal.returns
+returns c = search (took-good, rules, c.in_ok-judge_block.was)

@@ -1,10 +1,7 @@
 -- By the action. Assumes nothing.
-use Rattle.replay_machine.proofs.Acts.{showed-first, stage-acted, swap-acted, show-acted}
-use borrow.Author.Rules.{rules}
+use Rattle.std.proofs.Common.{rules}
+use Rattle.replay_machine.proofs.Acts.{stage-acted, swap-acted, show-acted}
 use Rattle.replay_machine.proofs.act.Goals as goal
-
-pub counted_on-requires-in-Show : goal.counted_on-requires-in-Show
-counted_on-requires-in-Show c = search (showed-first, rules)
 
 pub returns-in-Stage : goal.returns-in-Stage
 returns-in-Stage c = search (stage-acted, rules)

@@ -1,6 +1,6 @@
 -- By the action. Assumes nothing.
 use Rattle.replay_record.proofs.Fields.{act-0, act-1, act-2, act-3, act-none}
-use borrow.Author.Rules.{rules}
+use Rattle.std.proofs.Common.{rules}
 use Rattle.replay_record.proofs.act.Goals as goal
 
 pub returns-in-0 : goal.returns-in-0

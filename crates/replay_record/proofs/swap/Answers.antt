@@ -1,6 +1,6 @@
 -- By the edition. Assumes nothing.
 use Rattle.replay_record.proofs.Fields.{swaps, swaps-not}
-use borrow.Author.Rules.{rules}
+use Rattle.std.proofs.Common.{rules}
 use Rattle.replay_record.proofs.swap.Goals as goal
 
 pub returns-in-0 : goal.returns-in-0

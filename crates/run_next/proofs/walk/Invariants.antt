@@ -1,12 +1,7 @@
 -- The loop's invariant: nothing is to be done at the events that were passed. Assumes nothing.
-use mathlib.Core.Path.{◌≡◌}
-use Prim.Native.Nat.{◌/◌, ◌-◌}
-use lib.ListN.{length}
+use Rattle.std.proofs.Common.{◌≡◌, ◌/◌, ◌≤◌, max, length}
 use Rattle.run_next.specs.Walks.{Walks}
 use Rattle.run_next.proofs.walk.Given as goal
 
 abbrev pub invariant-loop-at : goal.invariant-loop-at
-invariant-loop-at l = (l.n ≡ length l.events / 20) × Walks l.first l.events l.initial.inside l.initial.at l.inside l.at
-
-abbrev pub decreases-loop-at : goal.decreases-loop-at
-decreases-loop-at l = l.n - l.at
+invariant-loop-at l = (l.n ≡ length l.events / 20) × Walks l.first l.events l.initial.inside l.start l.inside l.at × (l.at ≤ max l.n l.start)

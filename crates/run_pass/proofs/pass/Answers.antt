@@ -1,10 +1,7 @@
 -- The loop's invariant: what is reached before each event, or that there is no room. Assumes nothing.
-use mathlib.Core.Path.{sym, ◌∙◌}
-use Prim.Native.Nat.{◌-◌}
-use native.Mathlib.Omega.{arith}
-use borrow.Author.Rules.{rules}
+use Rattle.std.proofs.Common.{sym, ◌∙◌, ◌-◌, arith, rules}
 use Rattle.dispatch_handle.proofs.Laws.{quiet-enter, turned-quietly, turned-wholly}
-use Rattle.run_pass.proofs.Loop.{lent-long, lent_same, stays-start, all-steps, stays}
+use Rattle.run_pass.proofs.Loop.{lent-long, lent_same, stays-start, all-steps, stays, told-so}
 use Rattle.run_pass.proofs.pass.Goals as goal
 
 pub loop-lack-init : goal.loop-lack-init
@@ -32,7 +29,7 @@ pub shape_of-labels-then-n-i : goal.shape_of-labels-then-n-i
 shape_of-labels-then-n-i c = omega (arith, c.loop-lack.invariant)
 
 pub returns-then-n-i : goal.returns-then-n-i
-returns-then-n-i c = let inv = c.loop-lack.invariant in all-steps (omega (arith, c.if-n-i.true, inv.0)) (c.ahead-next.ensures.walks.goes (inv.9.on (sym c.has_room.ensures ∙ c.loop-lack-test.true)))
+returns-then-n-i c = let inv = c.loop-lack.invariant in all-steps (omega (arith, c.if-n-i.true, inv.0)) (c.ahead-next.ensures.walks.goes (inv.9.on (told-so c.loop-lack.lack c.is_none.result c.is_none.ensures c.loop-lack-test.true)))
 
 pub overflow_add-p : goal.overflow_add-p
 overflow_add-p c = omega (arith, c.if-n-i.false, c.count-n.type_inv)
@@ -51,7 +48,7 @@ loop-lack-preserved-then-is_whole c = let inv = c.loop-lack.invariant in (
   omega (arith, c.handle_whole-r.auto, inv),
   omega (arith, c.handle_whole-r.auto, inv),
   omega (arith, c.handle_whole-r.auto, inv),
-  stays (omega (arith, c.if-n-i.false, inv.0)) (c.ahead-next.ensures.walks.goes (inv.9.on (sym c.has_room.ensures ∙ c.loop-lack-test.true))) c.stays_inside-inside.ensures (c.ahead-next.ensures.here (omega (arith, c.if-n-i.false, inv.0))) (turned-wholly c.read-e.ensures c.is_whole.ensures c.if-is_whole.true c.handle_whole-r.ensures) (omega (arith, c.handle_whole-r.auto)) c.lack-lack.ensures,
+  stays (omega (arith, c.if-n-i.false, inv.0)) (c.ahead-next.ensures.walks.goes (inv.9.on (told-so c.loop-lack.lack c.is_none.result c.is_none.ensures c.loop-lack-test.true))) c.stays_inside-inside.ensures (c.ahead-next.ensures.here (omega (arith, c.if-n-i.false, inv.0))) (turned-wholly c.read-e.ensures c.is_whole.ensures c.if-is_whole.true c.handle_whole-r.ensures) (omega (arith, c.handle_whole-r.auto)) c.lack-lack.ensures,
 )
 
 pub loop-lack-smaller-then-is_enter : goal.loop-lack-smaller-then-is_enter
@@ -70,7 +67,7 @@ loop-lack-preserved-then-is_enter c = let inv = c.loop-lack.invariant in
       omega (arith, c.on_enter-r.auto, inv),
       omega (arith, c.on_enter-r.auto, inv),
       omega (arith, c.on_enter-r.auto, inv),
-      stays (omega (arith, c.if-n-i.false, inv.0)) (c.ahead-next.ensures.walks.goes (inv.9.on (sym c.has_room.ensures ∙ c.loop-lack-test.true))) c.stays_inside-inside.ensures (c.ahead-next.ensures.here (omega (arith, c.if-n-i.false, inv.0))) (turned-quietly c.read-e.ensures c.is_whole.ensures c.if-is_whole.false (quiet-enter (sym c.is_enter.ensures ∙ c.if-is_enter.true) c.on_enter-r.ensures) (omega (arith, c.on_enter-r.auto)) (omega (arith, c.on_enter-r.auto))) (omega (arith, c.on_enter-r.auto)) c.lack-lack-then-is_enter.ensures,
+      stays (omega (arith, c.if-n-i.false, inv.0)) (c.ahead-next.ensures.walks.goes (inv.9.on (told-so c.loop-lack.lack c.is_none.result c.is_none.ensures c.loop-lack-test.true))) c.stays_inside-inside.ensures (c.ahead-next.ensures.here (omega (arith, c.if-n-i.false, inv.0))) (turned-quietly c.read-e.ensures c.is_whole.ensures c.if-is_whole.false (quiet-enter (sym c.is_enter.ensures ∙ c.if-is_enter.true) c.on_enter-r.ensures) (omega (arith, c.on_enter-r.auto)) (omega (arith, c.on_enter-r.auto))) (omega (arith, c.on_enter-r.auto)) c.lack-lack-then-is_enter.ensures,
     )
 
 pub handle_exit-r-requires : goal.handle_exit-r-requires
@@ -92,11 +89,11 @@ loop-lack-preserved c = let inv = c.loop-lack.invariant in
       omega (arith, c.handle_exit-r.auto, inv),
       omega (arith, c.handle_exit-r.auto, inv),
       omega (arith, c.handle_exit-r.auto, inv),
-      stays (omega (arith, c.if-n-i.false, inv.0)) (c.ahead-next.ensures.walks.goes (inv.9.on (sym c.has_room.ensures ∙ c.loop-lack-test.true))) c.stays_inside-inside.ensures (c.ahead-next.ensures.here (omega (arith, c.if-n-i.false, inv.0))) (turned-quietly c.read-e.ensures c.is_whole.ensures c.if-is_whole.false c.handle_exit-r.ensures (omega (arith, c.handle_exit-r.auto)) (omega (arith, c.handle_exit-r.auto))) (omega (arith, c.handle_exit-r.auto)) c.lack-lack-in-loop-lack.ensures,
+      stays (omega (arith, c.if-n-i.false, inv.0)) (c.ahead-next.ensures.walks.goes (inv.9.on (told-so c.loop-lack.lack c.is_none.result c.is_none.ensures c.loop-lack-test.true))) c.stays_inside-inside.ensures (c.ahead-next.ensures.here (omega (arith, c.if-n-i.false, inv.0))) (turned-quietly c.read-e.ensures c.is_whole.ensures c.if-is_whole.false c.handle_exit-r.ensures (omega (arith, c.handle_exit-r.auto)) (omega (arith, c.handle_exit-r.auto))) (omega (arith, c.handle_exit-r.auto)) c.lack-lack-in-loop-lack.ensures,
     )
 
 pub overflow_sub-last : goal.overflow_sub-last
-overflow_sub-last c = c.loop-lack.invariant.9.past (sym c.has_room.ensures ∙ c.loop-lack-test.false)
+overflow_sub-last c = c.loop-lack.invariant.9.past (told-so c.loop-lack.lack c.is_none.result c.is_none.ensures c.loop-lack-test.false)
 
 pub shape_of-work : goal.shape_of-work
 shape_of-work c = omega (arith, c.loop-lack.invariant)
@@ -120,4 +117,4 @@ pub shape_of-labels : goal.shape_of-labels
 shape_of-labels c = omega (arith, c.loop-lack.invariant)
 
 pub returns : goal.returns
-returns c = rw c.full.ensures (c.loop-lack.invariant.9.over (sym c.has_room.ensures ∙ c.loop-lack-test.false))
+returns c = rw c.full.ensures (c.loop-lack.invariant.9.over (told-so c.loop-lack.lack c.is_none.result c.is_none.ensures c.loop-lack-test.false))

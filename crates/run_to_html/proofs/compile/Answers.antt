@@ -1,36 +1,34 @@
-use native.Mathlib.Omega.{arith}
-use Rattle.run_to_html.proofs.Both.{first-work, first-page, first_on}
+use Rattle.std.proofs.Common.{◌≡◌, rules, arith}
+use Rattle.std.specs.Prelude.{Err}
+use Rattle.run_to_html.proofs.Both.{first-full, first_on}
 use Rattle.run_to_html.proofs.compile.Goals as goal
 
 pub second-requires : goal.second-requires
-second-requires c = omega (arith, c.pass-p.auto, c.requires)
+second-requires c = omega (arith, c.pass.auto, c.requires)
 
-pub returns-in-WorkFull : goal.returns-in-WorkFull
-returns-in-WorkFull c = first-work c.in-WorkFull.is c.pass-p.ensures
+pub returns-in_err-c : goal.returns-in_err-c
+returns-in_err-c c = let e : c.from_residual.result ≡ Err c.in_err-c.field-0.0 = search rules in rw e (first-full _ c.in_err-c.was c.pass.ensures)
 
-pub returns-in-PageFull : goal.returns-in-PageFull
-returns-in-PageFull c = first-page c.in-PageFull.is c.pass-p.ensures
+pub shape_of-work : goal.shape_of-work
+shape_of-work c = omega (arith, c.pass.auto, c.second.auto)
 
-pub shape_of-work-in-On : goal.shape_of-work-in-On
-shape_of-work-in-On c = omega (arith, c.pass-p.auto, c.second.auto)
+pub shape_of-starts : goal.shape_of-starts
+shape_of-starts c = omega (arith, c.pass.auto, c.second.auto)
 
-pub shape_of-starts-in-On : goal.shape_of-starts-in-On
-shape_of-starts-in-On c = omega (arith, c.pass-p.auto, c.second.auto)
+pub shape_of-out : goal.shape_of-out
+shape_of-out c = omega (arith, c.pass.auto, c.second.auto)
 
-pub shape_of-out-in-On : goal.shape_of-out-in-On
-shape_of-out-in-On c = omega (arith, c.pass-p.auto, c.second.auto)
+pub shape_of-definitions : goal.shape_of-definitions
+shape_of-definitions c = omega (arith, c.pass.auto, c.second.auto)
 
-pub shape_of-definitions-in-On : goal.shape_of-definitions-in-On
-shape_of-definitions-in-On c = omega (arith, c.pass-p.auto, c.second.auto)
+pub shape_of-footnotes : goal.shape_of-footnotes
+shape_of-footnotes c = omega (arith, c.pass.auto, c.second.auto)
 
-pub shape_of-footnotes-in-On : goal.shape_of-footnotes-in-On
-shape_of-footnotes-in-On c = omega (arith, c.pass-p.auto, c.second.auto)
+pub shape_of-calls : goal.shape_of-calls
+shape_of-calls c = omega (arith, c.pass.auto, c.second.auto)
 
-pub shape_of-calls-in-On : goal.shape_of-calls-in-On
-shape_of-calls-in-On c = omega (arith, c.pass-p.auto, c.second.auto)
+pub shape_of-labels : goal.shape_of-labels
+shape_of-labels c = omega (arith, c.pass.auto, c.second.auto)
 
-pub shape_of-labels-in-On : goal.shape_of-labels-in-On
-shape_of-labels-in-On c = omega (arith, c.pass-p.auto, c.second.auto)
-
-pub returns-in-On : goal.returns-in-On
-returns-in-On c = first_on c.in-On.is (omega (arith, c.pass-p.auto)) c.pass-p.ensures c.second.ensures
+pub returns : goal.returns
+returns c = first_on c.in_ok-c.was (omega (arith, c.pass.auto)) c.pass.ensures c.second.ensures

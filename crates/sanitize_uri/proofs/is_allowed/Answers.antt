@@ -5,8 +5,8 @@ use Rattle.sanitize_uri.proofs.is_allowed.Goals as goal
 pub slice_bounds-is_listed-end : goal.slice_bounds-is_listed-end
 slice_bounds-is_listed-end c = search colon-inside
 
-pub returns-in-At : goal.returns-in-At
-returns-in-At c = search allowed_at_lem
+pub returns-in-Some : goal.returns-in-Some
+returns-in-Some c = search allowed_at_lem
 
-pub returns-in-Missing : goal.returns-in-Missing
-returns-in-Missing c = search allowed-missing
+pub returns-in-None : goal.returns-in-None
+returns-in-None c = search allowed-missing

@@ -1,7 +1,7 @@
--- The walk with encoding on. Assumes nothing.
-use Rattle.lent.proofs.Laws.{same}
+-- The walk with encoding on.
+use Rattle.lent.proofs.Writing.{by}
 use Rattle.sanitize_uri.proofs.Schemes.{sanitized}
 use Rattle.sanitize_uri.proofs.sanitize.Goals as goal
 
 pub returns : goal.returns
-returns c = search (same, sanitized)
+returns c = search (by, sanitized)

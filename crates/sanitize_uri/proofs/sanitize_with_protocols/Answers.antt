@@ -1,10 +1,10 @@
--- Nothing, or the URL sanitized. Assumes nothing.
-use Rattle.lent.proofs.Laws.{same}
+-- The URL sanitized, or nothing.
+use Rattle.lent.proofs.Writing.{by}
 use Rattle.sanitize_uri.proofs.Schemes.{not-allowed, is-allowed}
 use Rattle.sanitize_uri.proofs.sanitize_with_protocols.Goals as goal
 
-pub returns-then-not-is_allowed : goal.returns-then-not-is_allowed
-returns-then-not-is_allowed c = search not-allowed
+pub returns-then-is_allowed : goal.returns-then-is_allowed
+returns-then-is_allowed c = by (is-allowed _ _ _ _ c.is_allowed.ensures c.if-is_allowed.true) c.sanitize.ensures
 
-pub returns : goal.returns
-returns c = search (same, is-allowed)
+pub returns-else-is_allowed : goal.returns-else-is_allowed
+returns-else-is_allowed c = not-allowed _ _ _ _ c.is_allowed.ensures c.if-is_allowed.false

@@ -1,16 +1,13 @@
--- The loop's invariant: the signature of what is left, from `s` on, is the whole one. Assumes nothing.
-use Rattle.normalize_identifier.proofs.Laws.{forward-more}
-use Rattle.signature.proofs.Laws.{signature-start, signature-more, signature-end}
+-- `fold` goes over the whole identity, and folds it as the definition does. Assumes nothing.
+use Rattle.std.proofs.Common.{rules, tests, ◌∙◌}
+use Rattle.std.proofs.lemmas.Iterator.Consumers.{fold_from_yields_List, YieldsList-from_first}
+use Rattle.normalize_identifier.specs.Identity.{identity_of}
+use Rattle.normalize_identifier.specs.Left.{left}
+use Rattle.signature.specs.Signature.{mix, before}
+use Rattle.signature.proofs.Laws.{signature-folds}
 use Rattle.signature.proofs.sign.Goals as goal
 
-pub loop-b-init : goal.loop-b-init
-loop-b-init c = search signature-start
-
-pub returns-in_default : goal.returns-in_default
-returns-in_default c = search signature-end
-
-pub loop-b-smaller : goal.loop-b-smaller
-loop-b-smaller c = search forward-more
-
-pub loop-b-preserved : goal.loop-b-preserved
-loop-b-preserved c = search signature-more
+pub returns : goal.returns
+returns c =
+    fold_from_yields_List _ mix before c.fold.result c.fold.ensures.ran (YieldsList-from_first (λ x. x) left (identity_of c.args.label.now) c.new.ensures) (λ s b t q k. search (rules, tests))
+    ∙ signature-folds (identity_of c.args.label.now)

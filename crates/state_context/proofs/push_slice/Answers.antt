@@ -1,12 +1,9 @@
 -- Where the slice is of the text; elsewhere the machine stops.
-use Rattle.state_context.proofs.Slices.{slices, slice_back, slice_out}
+use Rattle.state_context.proofs.Slices.{slices, not-sliced}
 use Rattle.state_context.proofs.push_slice.Goals as goal
 
-pub returns-then-to-from : goal.returns-then-to-from
-returns-then-to-from c = search slice_back
-
-pub returns-then-text-to : goal.returns-then-text-to
-returns-then-text-to c = search slice_out
+pub returns-in_default : goal.returns-in_default
+returns-in_default c = not-sliced _ _ c.in_default.ensures.lookup.0
 
 pub returns : goal.returns
-returns c = search slices
+returns c = slices _ _ c.in-Some.ensures.lookup.0.2 c.escaping_in-escaping.ensures c.push_encoded-r.ensures

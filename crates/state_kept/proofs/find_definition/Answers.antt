@@ -3,4 +3,4 @@ use Rattle.state_kept.proofs.Finds.{definition-found}
 use Rattle.state_kept.proofs.find_definition.Goals as goal
 
 pub returns : goal.returns
-returns c = search definition-found
+returns c = definition-found c.part-label.ensures c.columns_of-columns.ensures c.find.ensures

@@ -1,6 +1,4 @@
 -- Where the table has a row left. Assumes nothing.
-use native.Mathlib.Omega.{arith}
-use lib.ListN.{length-set}
 use Rattle.state_kept.proofs.Opens.{opens-short, opens-full, opens-label}
 use Rattle.state_kept.proofs.open_label.Goals as goal
 
@@ -9,9 +7,6 @@ returns-then-labels-ne-LABEL_WORDS c = search opens-short
 
 pub returns-then-i-ge-NOTES : goal.returns-then-i-ge-NOTES
 returns-then-i-ge-NOTES c = search opens-full
-
-pub bounds-labels-i-2 : goal.bounds-labels-i-2
-bounds-labels-i-2 c = simp length-set (omega arith)
 
 pub returns : goal.returns
 returns c = search opens-label

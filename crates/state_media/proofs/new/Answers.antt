@@ -1,5 +1,5 @@
 -- Nothing is open.
-use mathlib.Core.Path.{refl}
+use Rattle.std.proofs.Common.{refl}
 use Rattle.state_media.proofs.new.Goals as goal
 
 pub returns : goal.returns

@@ -8,7 +8,7 @@ pub returns-then-w-i-ne32 : goal.returns-then-w-i-ne32
 returns-then-w-i-ne32 c = search spaces-not
 
 pub loop-i-preserved : goal.loop-i-preserved
-loop-i-preserved c = (search rules, search spaces-more)
+loop-i-preserved c = search spaces-more
 
 pub returns : goal.returns
 returns c = search spaces-end

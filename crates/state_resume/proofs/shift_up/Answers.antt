@@ -1,6 +1,5 @@
 -- From k on the bytes are moved.
-use Prim.Native.Nat.{◌-◌}
-use Rattle.state_resume.proofs.Moves.{up_none, up_more, up-end}
+use Rattle.state_resume.proofs.Moves.{up_none, up_more}
 use Rattle.state_resume.proofs.shift_up.Goals as goal
 
 pub loop-k-init : goal.loop-k-init
@@ -8,6 +7,3 @@ loop-k-init c = search up_none
 
 pub loop-k-preserved : goal.loop-k-preserved
 loop-k-preserved c = search up_more
-
-pub returns : goal.returns
-returns c = search up-end

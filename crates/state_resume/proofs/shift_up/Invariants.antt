@@ -1,10 +1,6 @@
 -- From k on the bytes are moved.
-use Prim.Native.Nat.{◌-◌}
 use Rattle.state_resume.proofs.Moves.{Rising}
 use Rattle.state_resume.proofs.shift_up.Given as goal
 
 abbrev pub invariant-loop-k : goal.invariant-loop-k
 invariant-loop-k l = Rising l.initial.w l.from l.to l.n l.w l.k
-
-abbrev pub decreases-loop-k : goal.decreases-loop-k
-decreases-loop-k l = l.k - l.from

@@ -1,9 +1,9 @@
--- Too few bytes, or two to look at. Assumes nothing.
+-- Two bytes to look at, or too few. Assumes nothing.
 use Rattle.url_byte.proofs.Laws.{two-short, two-there}
 use Rattle.url_byte.proofs.has_two_alnum.Goals as goal
 
-pub returns-then-value-i-lt2 : goal.returns-then-value-i-lt2
-returns-then-value-i-lt2 c = search two-short
+pub returns-in-len2-up : goal.returns-in-len2-up
+returns-in-len2-up c = search two-there
 
-pub returns : goal.returns
-returns c = search two-there
+pub returns-in_default : goal.returns-in_default
+returns-in_default c = search two-short

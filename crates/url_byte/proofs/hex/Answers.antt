@@ -5,5 +5,5 @@ use Rattle.url_byte.proofs.hex.Goals as goal
 pub returns-then-n-lt10 : goal.returns-then-n-lt10
 returns-then-n-lt10 c = search hex-low
 
-pub returns : goal.returns
-returns c = search hex-high
+pub returns-else-n-lt10 : goal.returns-else-n-lt10
+returns-else-n-lt10 c = search hex-high

@@ -2,8 +2,8 @@
 use Rattle.url_byte.proofs.Laws.{stays-percent, stays-other}
 use Rattle.url_byte.proofs.is_staying.Goals as goal
 
-pub returns-then-b-eq37 : goal.returns-then-b-eq37
-returns-then-b-eq37 c = search stays-percent
+pub returns-in-37 : goal.returns-in-37
+returns-in-37 c = search stays-percent
 
-pub returns : goal.returns
-returns c = search stays-other
+pub returns-in_default : goal.returns-in_default
+returns-in_default c = search stays-other

@@ -1,13 +1,12 @@
--- The loop's invariant: the first `k` marks are set as they have to be. Assumes nothing.
-use Rattle.url_run.proofs.Laws.{mark-none, mark-more, mark-end}
-use borrow.Author.Rules.{rules}
+-- One more mark. Assumes nothing.
+use Rattle.std.proofs.Common.{refl, rules}
+use Rattle.url_run.specs.Private.{marks_of}
+use Rattle.url_run.proofs.Laws.{mark-more}
 use Rattle.url_run.proofs.mark_all.Goals as goal
 
 pub loop-k-init : goal.loop-k-init
-loop-k-init c = search (mark-none, rules)
+unfolding marks_of
+loop-k-init c = refl
 
 pub loop-k-preserved : goal.loop-k-preserved
-loop-k-preserved c = search (mark-more, rules)
-
-pub returns : goal.returns
-returns c = search mark-end
+loop-k-preserved c = search (rules, mark-more)

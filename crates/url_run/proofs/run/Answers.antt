@@ -1,6 +1,5 @@
 -- The count itself. Assumes nothing.
-use mathlib.Core.Path.{refl}
-use native.Mathlib.Omega.{arith}
+use Rattle.std.proofs.Common.{refl, arith}
 use lib.Count.{trailing_le}
 use Rattle.url_run.specs.Private.{run_of}
 use Rattle.url_run.proofs.run.Goals as goal

@@ -1,4 +1,4 @@
--- Two halves. Assumes nothing.
+-- What the library reads is the word. Assumes nothing.
 use Rattle.url_run.proofs.Laws.{word-of}
 use Rattle.url_run.proofs.word.Goals as goal
 

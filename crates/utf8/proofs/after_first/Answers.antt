@@ -1,5 +1,5 @@
 -- By the first byte's range. Assumes nothing.
-use native.Mathlib.Omega.{arith}
+use Rattle.std.proofs.Common.{arith}
 use Rattle.utf8.proofs.Table.{ascii-due, low-wrong, high-wrong, some, few-more, more-due}
 use Rattle.utf8.proofs.after_first.Goals as goal
 

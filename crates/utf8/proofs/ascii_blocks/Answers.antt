@@ -1,5 +1,4 @@
--- The loop's invariant: the run of ASCII bytes from `from` on ends where that from `at` on does. Assumes nothing.
-use Prim.Native.Nat.{◌-◌}
+-- A block of ASCII bytes goes on the run. Assumes nothing.
 use Rattle.utf8.proofs.Walk.{block}
 use Rattle.utf8.proofs.ascii_blocks.Goals as goal
 

@@ -1,7 +1,5 @@
 -- The loop's invariant: the run of ASCII bytes from `from` on ends where that from `at` on does. Assumes nothing.
-use mathlib.Core.Path.{◌≡◌}
-use Prim.Native.Nat.{◌+◌, ◌-◌}
-use lib.ListN.{length, drop}
+use Rattle.std.proofs.Common.{◌≡◌, ◌+◌, ◌-◌, length, drop}
 use Rattle.utf8.specs.Private.{ascii_run}
 use Rattle.utf8.proofs.ascii_blocks.Given as goal
 

@@ -1,12 +1,7 @@
--- The loop's invariant: the run of ASCII bytes from `from` on ends where that from `at` on does. Assumes nothing.
-use mathlib.Core.Path.{◌≡◌}
-use Prim.Native.Nat.{◌+◌, ◌-◌}
-use lib.ListN.{length, drop}
+-- The run of ASCII bytes from `from` on ends where that from `at` on does. Assumes nothing.
+use Rattle.std.proofs.Common.{◌≡◌, ◌+◌, drop}
 use Rattle.utf8.specs.Private.{ascii_run}
 use Rattle.utf8.proofs.ascii_to.Given as goal
 
 abbrev pub invariant-loop-at : goal.invariant-loop-at
 invariant-loop-at l = l.at + ascii_run (drop l.at l.s) ≡ l.from + ascii_run (drop l.from l.s)
-
-abbrev pub decreases-loop-at : goal.decreases-loop-at
-decreases-loop-at l = length l.s - l.at

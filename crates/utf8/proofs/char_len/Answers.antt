@@ -1,5 +1,5 @@
 -- By how many leading ones there are. Assumes nothing.
-use native.Mathlib.Omega.{arith}
+use Rattle.std.proofs.Common.{arith}
 use Rattle.utf8.proofs.Table.{ones_none, ones-one, ones-many, ones-few}
 use Rattle.utf8.proofs.char_len.Goals as goal
 

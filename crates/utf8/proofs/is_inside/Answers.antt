@@ -1,5 +1,5 @@
 -- By the byte that stands at the place. Assumes nothing.
-use native.Mathlib.Omega.{arith}
+use Rattle.std.proofs.Common.{arith}
 use Rattle.utf8.proofs.Walk.{past_end, starts-low, by-top}
 use Rattle.utf8.proofs.is_inside.Goals as goal
 

@@ -1,5 +1,4 @@
--- The loop's invariant: the bytes from `i` on decide as the whole text does. Assumes nothing.
-use Prim.Native.Nat.{◌-◌}
+-- A byte goes on a character, ends one, or can't stand; and the text ends. Assumes nothing.
 use Rattle.utf8.proofs.Walk.{begun, on, wrong, skipped, ended}
 use Rattle.utf8.proofs.is_utf8.Goals as goal
 

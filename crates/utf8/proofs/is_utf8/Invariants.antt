@@ -1,7 +1,5 @@
 -- The loop's invariant: the bytes from `i` on decide as the whole text does. Assumes nothing.
-use mathlib.Core.Path.{◌≡◌}
-use Prim.Native.Nat.{◌-◌}
-use lib.ListN.{length, drop}
+use Rattle.std.proofs.Common.{◌≡◌, ◌-◌, length, drop}
 use Rattle.utf8.specs.Table.{is_whole}
 use Rattle.utf8.specs.Utf8.{run, is_utf8}
 use Rattle.utf8.proofs.is_utf8.Given as goal

@@ -1,5 +1,5 @@
 -- By the first byte. Assumes nothing.
-use borrow.Author.Tests.{eq-eqb, ne_eqb}
+use Rattle.std.proofs.Common.{eq-eqb, ne_eqb}
 use Rattle.utf8.proofs.second_from.Goals as goal
 
 pub returns-then-b-eq224 : goal.returns-then-b-eq224

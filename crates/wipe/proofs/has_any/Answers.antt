@@ -1,14 +1,9 @@
--- The loop's invariant: what was seen and what is left make up the answer. Assumes nothing.
-use mathlib.Core.Path.{refl}
-use Prim.Native.Nat.{◌-◌}
+-- A byte more, and no byte left. Assumes nothing.
 use Rattle.wipe.proofs.Laws.{set_more, set-end}
 use Rattle.wipe.proofs.has_any.Goals as goal
 
-pub loop-i-init : goal.loop-i-init
-loop-i-init c = refl
-
-pub loop-i-preserved : goal.loop-i-preserved
-loop-i-preserved c = search set_more
+pub loop-b-preserved : goal.loop-b-preserved
+loop-b-preserved c = search set_more
 
 pub returns : goal.returns
 returns c = search set-end

@@ -1,6 +1,6 @@
 -- Zero already, or cleared. Assumes nothing.
 use Rattle.wipe.proofs.Laws.{still-zero, wiped-end}
-use borrow.Author.Rules.{rules}
+use Rattle.std.proofs.Common.{rules}
 use Rattle.wipe.proofs.wipe_part.Goals as goal
 
 pub returns-then-not-has_any : goal.returns-then-not-has_any

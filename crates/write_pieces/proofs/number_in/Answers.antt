@@ -1,5 +1,4 @@
--- The loop's invariant: the digits left, behind those that say `n`, make the whole answer. Assumes nothing.
-use Prim.Native.Nat.{◌-◌}
+-- Where a digit breaks the rule, where none is left, and between. Assumes nothing.
 use Rattle.write_pieces.proofs.Values.{none-there, too_many, all_left, below-digits, above-digits, next-digit, no-digit-left, grows, product-fits, sum_fits}
 use borrow.Author.Rules.{rules}
 use Rattle.write_pieces.proofs.number_in.Goals as goal
@@ -10,8 +9,8 @@ returns-then-s-lt1 c = search none-there
 pub returns-then-s-gt9 : goal.returns-then-s-gt9
 returns-then-s-gt9 c = search too_many
 
-pub loop-i-init : goal.loop-i-init
-loop-i-init c = search (all_left, rules)
+pub loop-b-init : goal.loop-b-init
+loop-b-init c = search (all_left, rules)
 
 pub returns-then-b-lt48 : goal.returns-then-b-lt48
 returns-then-b-lt48 c = search below-digits
@@ -25,8 +24,8 @@ overflow_mul-n c = search product-fits
 pub overflow_add-n : goal.overflow_add-n
 overflow_add-n c = search sum_fits
 
-pub loop-i-preserved : goal.loop-i-preserved
-loop-i-preserved c = search (next-digit, grows)
+pub loop-b-preserved : goal.loop-b-preserved
+loop-b-preserved c = search (next-digit, grows)
 
 pub returns : goal.returns
 returns c = search no-digit-left

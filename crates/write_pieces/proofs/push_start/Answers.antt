@@ -1,10 +1,7 @@
--- To the page, or to the newest capture. Assumes nothing.
-use Rattle.state_buffers.proofs.Laws.{push-page, push-capture}
+-- Where the machine goes on. Assumes nothing.
+use Rattle.std.proofs.Common.{rules}
 use Rattle.write_pieces.proofs.Pushed.{pushed_start}
 use Rattle.write_pieces.proofs.push_start.Goals as goal
 
-pub returns-then-b-eq0 : goal.returns-then-b-eq0
-returns-then-b-eq0 c = search (pushed_start, push-page)
-
 pub returns : goal.returns
-returns c = search (pushed_start, push-capture)
+returns c = search (rules, pushed_start)

@@ -1,13 +1,14 @@
--- The loop's invariant: what is left is to append the spaces that are left. Assumes nothing.
+-- One space more, or none is left. Assumes nothing.
+use Rattle.std.proofs.Common.{◌≡◌, ◌-◌, arith}
 use Rattle.lent.proofs.Laws.{all, step, done}
 use Rattle.write_pieces.proofs.Decimal.{space-more, space-end}
 use Rattle.write_pieces.proofs.put_spaces.Goals as goal
 
-pub loop-left-init : goal.loop-left-init
-loop-left-init c = all
+pub loop-init : goal.loop-init
+loop-init c = let e : c.args.n - 0 ≡ c.args.n = omega arith in rw e all
 
-pub loop-left-preserved : goal.loop-left-preserved
-loop-left-preserved c = search (step, space-more)
+pub loop-preserved : goal.loop-preserved
+loop-preserved c = search (step, space-more)
 
 pub returns : goal.returns
 returns c = search (done, space-end)

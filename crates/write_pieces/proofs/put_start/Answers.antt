@@ -2,8 +2,8 @@
 use Rattle.write_pieces.proofs.Values.{starts, starts-not}
 use Rattle.write_pieces.proofs.put_start.Goals as goal
 
-pub returns-in-At : goal.returns-in-At
-returns-in-At c = search starts
+pub returns-in-Some : goal.returns-in-Some
+returns-in-Some c = search starts
 
-pub returns-in-Broken : goal.returns-in-Broken
-returns-in-Broken c = search starts-not
+pub returns-in-None : goal.returns-in-None
+returns-in-None c = search starts-not

@@ -1,6 +1,6 @@
 -- Head, items and tail, as the machine writes them. Assumes nothing.
 use Rattle.write_section.proofs.Items.{section-put}
-use borrow.Author.Rules.{rules}
+use Rattle.std.proofs.Common.{rules}
 use Rattle.write_section.proofs.footnote_section.Goals as goal
 
 pub returns : goal.returns

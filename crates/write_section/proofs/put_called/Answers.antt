@@ -8,8 +8,8 @@ returns-then-to-from c = search called-unordered
 pub returns-then-text-to : goal.returns-then-text-to
 returns-then-text-to c = search called-outside
 
-pub returns-in-At : goal.returns-in-At
-returns-in-At c = search called-found
+pub returns-in-Some : goal.returns-in-Some
+returns-in-Some c = search called-found
 
-pub returns-in-Nothing : goal.returns-in-Nothing
-returns-in-Nothing c = search called-nothing
+pub returns-in-None : goal.returns-in-None
+returns-in-None c = search called-nothing

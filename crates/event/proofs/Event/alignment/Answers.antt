@@ -1,6 +1,6 @@
 -- Two bits, by shift and mask. Assumes nothing.
 use Rattle.event.proofs.Laws.{masked-alignment, past-extra}
-use borrow.Author.Rules.{rules}
+use Rattle.std.proofs.Common.{rules}
 use Rattle.event.proofs.Event.alignment.Goals as goal
 
 pub returns-then-column-gt27 : goal.returns-then-column-gt27
