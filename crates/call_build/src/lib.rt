@@ -20,11 +20,12 @@ pub fn build(
 ) -> Result<usize, Refusal>
     ensures { Builds text.now events.now options out.old work.old out.new work.new result }
 {
-    if let Err(refusal) = call_build_answer::check(text, events, work.len()) {
-        return call_build_answer::refuse(Refusal::Checked(refusal), out, work);
-    }
-    let rendered = render(text, events, options, out, work);
-    call_build_answer::finish(rendered, out, work)
+    let checked = call_build_answer::check(text, events, work.len());
+    let Err(refusal) = checked else {
+        let rendered = render(text, events, options, out, work);
+        return call_build_answer::finish(rendered, out, work);
+    };
+    call_build_answer::refuse(Err(Refusal::Checked(refusal)), out, work)
 }
 
 // The run is lent as many work bytes as it needs.

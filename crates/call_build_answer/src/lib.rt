@@ -83,11 +83,11 @@ fn page(size: usize, out: &mut [u8], work: &mut [u8]) -> Result<usize, Refusal>
 }
 
 // A refusal leaves nothing in either buffer.
-pub fn refuse(refusal: Refusal, out: &mut [u8], work: &mut [u8]) -> Result<usize, Refusal>
-    ensures { Leaves (Err refusal) 0 out.old work.old out.new work.new result }
+pub fn refuse(b: Result<usize, Refusal>, out: &mut [u8], work: &mut [u8]) -> Result<usize, Refusal>
+    ensures { Leaves b 0 out.old work.old out.new work.new result }
 {
     clear(out, 0, work);
-    Err(refusal)
+    b
 }
 
 // Each answer of the run, with what it leaves in the buffers.
@@ -96,8 +96,8 @@ pub fn finish(r: Result<usize, Full>, out: &mut [u8], work: &mut [u8]) -> Result
 {
     match r {
         Ok(length) => page(length, out, work),
-        Err(Full::Work(i)) => refuse(Refusal::WorkFull(i), out, work),
-        Err(Full::Page(i)) => refuse(Refusal::PageFull(i), out, work),
+        Err(Full::Work(i)) => refuse(Err(Refusal::WorkFull(i)), out, work),
+        Err(Full::Page(i)) => refuse(Err(Refusal::PageFull(i)), out, work),
     }
 }
 

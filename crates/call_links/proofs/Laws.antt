@@ -1,5 +1,5 @@
 -- The loop over the URLs: what was written and what is left to write are the whole list. Assumes nothing.
-use Rattle.std.proofs.Common.{◌≡◌, Bool, List, [], ◌∷◌, ◌++◌, ℕ, ◌+◌, ◌-◌, ◌≤◌, ◌<◌, length, take, drop, set, get_or, Result, Ok, sym, ap, ◌∙◌, zero-add, arith, w32, Fits, drop_of_length-le}
+use Rattle.std.proofs.Common.{◌≡◌, Bool, List, [], ◌∷◌, ◌++◌, ℕ, ◌+◌, ◌-◌, ◌≤◌, ◌<◌, length, take, drop, set, get_or, Result, Ok, Err, sym, ap, ◌∙◌, zero-add, arith, w32, Fits, drop_of_length-le}
 use Rattle.lent.specs.Fill.{zeros, Filled}
 use Rattle.lent.proofs.Laws.{length-filled, take-fill, next, put_in, Left, all, step, done}
 use Rattle.call_links_answer.specs.declared.Refusal.{Refusal}
@@ -100,7 +100,7 @@ kept {d} {s} {e} {f} {at} k h p =
     (n, p ∙ rw (n, l, t))
 
 module _ {on : Bool} {text ends d l d' l' e m : List ℕ} {i from at : ℕ} {r : Result ℕ Refusal} (t : taken_of text ends (length l) ≡ Ok tt) (g : Going on text ends d l d' l' i from at) where
-  pub no_room_lem : {f : List ℕ} {n b : ℕ} → i < length ends → n ≡ get_or ends i 0 → Filled d' at (link_of on (take (n - from) (drop from text))) f b → length f < b → Refuses f l' (NoRoom i) e m r
+  pub no_room_lem : {f : List ℕ} {n b : ℕ} → i < length ends → n ≡ get_or ends i 0 → Filled d' at (link_of on (take (n - from) (drop from text))) f b → length f < b → Refuses f l' (Err (NoRoom i)) e m r
       → Lists on text ends d l e m r
   no_room_lem h p k u q =
       let x = sym (length-filled k ∙ g.bytes.long) in

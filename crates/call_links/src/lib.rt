@@ -22,7 +22,7 @@ pub fn sanitize_links(
 {
     match call_links_answer::take_list(text, ends, lengths.len()) {
         Ok(()) => write(text, ends, apostrophes, out, lengths),
-        Err(refusal) => call_links_answer::refuse(out, lengths, refusal),
+        Err(refusal) => call_links_answer::refuse(out, lengths, Err(refusal)),
     }
 }
 
@@ -43,7 +43,7 @@ fn write(
         let end = *end as usize;
         let behind = append(&text[from..end], apostrophes, out, at);
         if out.len() < behind {
-            return call_links_answer::refuse(out, lengths, Refusal::NoRoom(i));
+            return call_links_answer::refuse(out, lengths, Err(Refusal::NoRoom(i)));
         }
         lengths[i] = (behind - at) as u32;
         from = end;

@@ -24,7 +24,7 @@ refused-case false false false false v n m t w p = cc
 refused-case false false false true true n m t w p = cc
 refused-case false false false true false n m t w p = cc
 
-pub refused : {on : Bool} {text ends d l e m : List ℕ} {t : Result (Unit {0}) Refusal} {w : Refusal} {r : Result ℕ Refusal} → t ≡ taken_of text ends (length l) → t ≡ Err w → Refuses d l w e m r → Lists on text ends d l e m r
+pub refused : {on : Bool} {text ends d l e m : List ℕ} {t : Result (Unit {0}) Refusal} {w : Refusal} {r : Result ℕ Refusal} → t ≡ taken_of text ends (length l) → t ≡ Err w → Refuses d l (Err w) e m r → Lists on text ends d l e m r
 unfolding taken_of choose
 refused {on} {text} {ends} {d} {l} {w = w} {r = r} p q h =
     let c =

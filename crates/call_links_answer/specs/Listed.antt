@@ -77,8 +77,8 @@ left d s (Ok n) = filled d s
 left d s (Err r) = zeros (length d)
 
 -- a refusal leaves nothing in both
-pub record Refuses (d l : List ℕ) (w : Refusal) (e m : List ℕ) (r : Result ℕ Refusal) : Type 0 where
-  pub answer : r ≡ Err w
+pub record Refuses (d l : List ℕ) (w : Result ℕ Refusal) (e m : List ℕ) (r : Result ℕ Refusal) : Type 0 where
+  pub answer : r ≡ w
   pub bytes : e ≡ zeros (length d)
   pub lengths : m ≡ zeros (length l)
 

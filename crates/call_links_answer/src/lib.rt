@@ -116,12 +116,16 @@ fn find_cut(text: &[u8], ends: &[u32]) -> Option<usize>
 }
 
 // A refusal leaves nothing in either buffer.
-pub fn refuse(out: &mut [u8], lengths: &mut [u32], r: Refusal) -> Result<usize, Refusal>
+pub fn refuse(
+    out: &mut [u8],
+    lengths: &mut [u32],
+    r: Result<usize, Refusal>,
+) -> Result<usize, Refusal>
     ensures { Refuses out.old lengths.old r out.new lengths.new result }
 {
     lent::clear(out, 0);
     clear_lengths(lengths, 0);
-    Err(r)
+    r
 }
 
 // The links were written up to the place `end`, and as many lengths as `count` says; zeros stand behind both.
