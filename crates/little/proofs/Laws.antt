@@ -1,38 +1,24 @@
 -- The laws of numbers in bytes, little endian, over every width. Assumes nothing.
-use Rattle.std.proofs.Common.{w16, w32, w64, ◌≡◌, refl, ap, List, [], ◌∷◌, ℕ, zero, suc, ◌+◌, ◌*◌, ◌/◌, ◌%◌, ◌^◌, ◌≤◌, ◌<◌, pow-suc, div-lt_iff_lt-mul, arith, length, take, drop, get_or, length-drop, get_or-drop}
-use Rattle.std.proofs.Math.Nat.{one-le-pow}
+use Rattle.std.proofs.Common.{w16, w32, w64, ◌≡◌, refl, sym, ap, ◌∙◌, List, [], ◌∷◌, ℕ, zero, suc, ◌+◌, ◌*◌, ◌/◌, ◌%◌, ◌^◌, ◌≤◌, ◌<◌, pow-suc, mul_comm, mul_assoc, zero-add, suc-add, div-lt_iff_lt-mul, arith, length, take, drop, get_or, length-drop, get_or-drop, drop-drop}
+use Rattle.std.proofs.Math.Nat.{one-le-pow, mul-zero}
+use Rattle.std.proofs.Math.Seq.{take-nil}
 use Rattle.std.specs.Int.{from_le_bytes}
-use Rattle.lent.proofs.Laws.{next}
 use Rattle.little.specs.Little.{little, number, field}
 
 -- ---- reading
 
--- a byte, and those behind it
-more : (n at m : ℕ) (l : List ℕ) → m ≡ at + 1 → at < length l → field at (suc n) l ≡ get_or l at 0 + 256 * field m n l
+-- the first m bytes, and the n behind them
+number-take : (m n : ℕ) (l : List ℕ) → number (take (m + n) l) ≡ number (take m l) + 256 ^ m * number (take n (drop m l))
 unfolding number
-more n at m l p h = rw (p, next l at h)
+number-take zero n l = rw zero-add (omega arith)
+number-take (suc m) n [] = rw (take-nil, take-nil) (omega (arith, mul-zero (256 ^ suc m)))
+number-take (suc m) n (x ∷ l) =
+    let e : 256 ^ suc m * number (take n (drop m l)) ≡ 256 * (256 ^ m * number (take n (drop m l))) = rw (pow-suc, mul_comm (256 ^ m) 256, mul_assoc) in
+    rw (suc-add, number-take m n l) (omega (arith, e))
 
-none : (at : ℕ) (l : List ℕ) → field at 0 l ≡ 0
-unfolding number
-none at l = refl
-
--- what the library's `from_le_bytes` makes of them
-module _ (at : ℕ) (l : List ℕ) where
-  abbrev byte : ℕ → ℕ
-  byte k = get_or l (at + k) 0
-
-  pub two : at + 2 ≤ length l → from_le_bytes w16 (get_or l at 0 ∷ byte 1 ∷ []) ≡ field at 2 l
-  two h = omega (arith, more 1 at (at + 1) l refl (omega arith), more 0 (at + 1) (at + 2) l (omega arith) (omega arith), none (at + 2) l)
-
-  back : (n k : ℕ) → at + k < length l → field (at + k) (suc n) l ≡ byte k + 256 * field (at + suc k) n l
-  back n k h = more n (at + k) (at + suc k) l (omega arith) h
-
-  pub four : at + 4 ≤ length l → from_le_bytes w32 (get_or l at 0 ∷ byte 1 ∷ byte 2 ∷ byte 3 ∷ []) ≡ field at 4 l
-  four h = omega (arith, more 3 at (at + 1) l refl (omega arith), back 2 1 (omega arith), back 1 2 (omega arith), back 0 3 (omega arith), none (at + 4) l)
-
-  pub eight : at + 8 ≤ length l → from_le_bytes w64 (get_or l at 0 ∷ byte 1 ∷ byte 2 ∷ byte 3 ∷ byte 4 ∷ byte 5 ∷ byte 6 ∷ byte 7 ∷ []) ≡ field at 8 l
-  eight h =
-      omega (arith, more 7 at (at + 1) l refl (omega arith), back 6 1 (omega arith), back 5 2 (omega arith), back 4 3 (omega arith), back 3 4 (omega arith), back 2 5 (omega arith), back 1 6 (omega arith), back 0 7 (omega arith), none (at + 8) l)
+-- a field of its two halves
+pub halves : (m n at : ℕ) (l : List ℕ) {a b : ℕ} → a ≡ field at m l → b ≡ field (at + m) n l → a + 256 ^ m * b ≡ field at (m + n) l
+halves m n at l p q = sym (number-take m n (drop at l) ∙ rw (drop-drop, p, q))
 
 pub one_byte : (at : ℕ) (l : List ℕ) → get_or l at 0 ≡ field at 1 l
 unfolding number
@@ -40,6 +26,32 @@ one_byte zero [] = refl
 one_byte zero (x ∷ l) = omega arith
 one_byte (suc at) [] = refl
 one_byte (suc at) (x ∷ l) = one_byte at l
+
+-- what the library's `from_le_bytes` makes of two, four and eight bytes
+module _ (at : ℕ) (l : List ℕ) where
+  abbrev byte : ℕ → ℕ
+  byte k = get_or l (at + k) 0
+
+  abbrev pair : ℕ → ℕ
+  pair k = byte k + 256 ^ 1 * byte (k + 1)
+
+  abbrev quad : ℕ → ℕ
+  quad k = pair k + 256 ^ 2 * pair (k + 2)
+
+  pair-is : (k : ℕ) → pair k ≡ field (at + k) 2 l
+  pair-is k = let e : at + (k + 1) ≡ at + k + 1 = omega arith in halves 1 1 (at + k) l (one_byte (at + k) l) (rw e (one_byte (at + k + 1) l))
+
+  quad-is : (k : ℕ) → quad k ≡ field (at + k) 4 l
+  quad-is k = let e : at + (k + 2) ≡ at + k + 2 = omega arith in halves 2 2 (at + k) l (pair-is k) (pair-is (k + 2) ∙ ap (λ (x : ℕ). field x 2 l) e)
+
+  pub two : at + 2 ≤ length l → from_le_bytes w16 (get_or l at 0 ∷ byte 1 ∷ []) ≡ field at 2 l
+  two h = let z : at + 0 ≡ at = omega arith in omega (arith, rw z at (pair-is 0))
+
+  pub four : at + 4 ≤ length l → from_le_bytes w32 (get_or l at 0 ∷ byte 1 ∷ byte 2 ∷ byte 3 ∷ []) ≡ field at 4 l
+  four h = let z : at + 0 ≡ at = omega arith in omega (arith, rw z at (quad-is 0))
+
+  pub eight : at + 8 ≤ length l → from_le_bytes w64 (get_or l at 0 ∷ byte 1 ∷ byte 2 ∷ byte 3 ∷ byte 4 ∷ byte 5 ∷ byte 6 ∷ byte 7 ∷ []) ≡ field at 8 l
+  eight h = let z : at + 0 ≡ at = omega arith in omega (arith, halves 4 4 at l (rw z at (quad-is 0)) (quad-is 4))
 
 -- bytes below 256 hold a number that fits
 number-below : (n : ℕ) (l : List ℕ) → ((k : ℕ) → get_or l k 0 < 256) → number (take n l) < 256 ^ n
