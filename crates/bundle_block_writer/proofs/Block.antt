@@ -1,7 +1,8 @@
 -- What the code goes by on one block: its words, its payload with zeros behind, and the check of what stands there. Assumes nothing.
-use Rattle.std.proofs.Common.{◌≡◌, sym, ap, ◌∙◌, List, [], ◌∷◌, ◌++◌, append_assoc, ℕ, zero, suc, ◌+◌, ◌-◌, ◌≤◌, ◌<◌, arith, length, take, drop, length-append, length-drop}
+use Rattle.std.proofs.Common.{◌≡◌, sym, ap, ◌∙◌, List, [], ◌∷◌, ◌++◌, append_assoc, ℕ, zero, suc, ◌+◌, ◌-◌, ◌≤◌, ◌<◌, arith, length, take, drop, length-append, length-take, length-drop, drop-drop, take_all}
 use Rattle.std.proofs.Math.Seq.{append_snoc}
-use Rattle.lent.specs.Fill.{fill, zeros}
+use Rattle.std.proofs.lemmas.List.{length-replicate}
+use Rattle.lent.specs.Fill.{fill, zeros, Filled}
 use Rattle.lent.specs.declared.Writer.{Writer}
 use Rattle.lent.specs.Writer.{Writes}
 use Rattle.lent.proofs.Laws.{fill-behind, take-fill}
@@ -22,12 +23,33 @@ stands {s} {v} {w} h p =
 
 -- ---- the zeros behind a payload
 
-module _ (i : ℕ) {s : List ℕ} {u v : Writer} (p : Due s u (zeros (500 - i)) v) where
-  pub zero_more : {w : Writer} → i < 500 → Writes (0 ∷ []) v w → Due s u (zeros (500 - (i + 1))) w
-  zero_more h q = let n : 500 - i ≡ suc (500 - (i + 1)) = omega arith in step (rw n) p q
+-- bytes in the place of as many
+fill-part : (d s : List ℕ) (at : ℕ) → at + length s ≤ length d → take at d ++ (s ++ drop (length s) (drop at d)) ≡ fill d at s
+unfolding fill
+fill-part d s at h =
+    let n : length (take at d ++ s ++ drop (at + length s) d) ≤ length d = simp (length-append, length-take, length-drop) (omega arith) in
+    rw (drop-drop (length s) at d) (sym (append_assoc (take at d) s (drop (at + length s) d)) ∙ sym (take_all (length d) (take at d ++ s ++ drop (at + length s) d) n))
 
-  pub zero-end : 500 ≤ i → Writes s u v
-  zero-end h = let n : 500 - i ≡ 0 = omega arith in done (rw n) p
+-- zeros there
+pub zeros-put : (d m : List ℕ) (from end n : ℕ) → from + n ≡ end → end ≤ length d → m ≡ take 0 (take (end - from) (drop from d)) ++ zeros (length (take (end - from) (drop from d)) - 0)
+    → Filled d from (zeros n) (take from d ++ (m ++ drop (end - from) (drop from d))) end
+zeros-put d m from end n h k q =
+    let c : end - from ≡ n = omega arith in
+    let w : length (take n (drop from d)) - 0 ≡ n = simp (length-take, length-drop) (omega arith) in
+    let z : length (zeros n) ≡ n = simp length-replicate in
+    let b : take from d ++ (zeros n ++ drop n (drop from d)) ≡ fill d from (zeros n) = rw z at (fill-part d (zeros n) from (omega arith)) in
+    record { bytes = rw (q, c, w) b; place = omega arith }
+
+-- behind the words a whole payload has room, and behind the payload its rest
+pub words-fit : (edition number kind : ℕ) {u v : Writer} → u.at + 512 ≤ length u.bytes.now → Writes (little 4 edition ++ little 2 number ++ little 1 kind ++ 0 ∷ []) u v → v.at + 500 ≤ length v.bytes.now
+words-fit edition number kind h p =
+    let a = p.filled.place in
+    let n : length (little 4 edition ++ little 2 number ++ little 1 kind ++ 0 ∷ []) ≡ 8 = simp (length-append, length-little) (omega arith) in
+    let b = length-written p in
+    omega (arith)
+
+pub rest-fits : {s : List ℕ} {v w : Writer} → v.at + 500 ≤ length v.bytes.now → length s ≤ 500 → Writes s v w → w.at + (500 - length s) ≤ length w.bytes.now
+rest-fits h k p = let a = p.filled.place in let b = length-written p in omega arith
 
 -- ---- a block
 

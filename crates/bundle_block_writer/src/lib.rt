@@ -65,11 +65,11 @@ fn put_words(out: &mut Writer, edition: u32, number: usize, kind: u8)
 
 // The payload, and zeros where it is unused.
 fn put_payload(out: &mut Writer, payload: &[u8])
-    requires { length payload.now ≤ 500 }
+    requires { (out.old.at + 500 ≤ length out.old.bytes.now) × (length payload.now ≤ 500) }
     ensures { Writes (payload.now ++ zeros (500 - length payload.now)) out.old out.new }
 {
     out.put_all(payload);
-    for _ in payload.len()..PAYLOAD {
-        out.put(0);
-    }
+    let end = out.at + (PAYLOAD - payload.len());
+    lent::clear(&mut out.bytes[out.at..end], 0);
+    out.at = end;
 }
