@@ -268,7 +268,7 @@ fn is_use(events: &[u8], i: usize) -> bool
     name == Event::GFM_FOOTNOTE_CALL
 }
 
-// The first enter that does not hold: none before `from` does not.
+// The first enter that does not hold: none before `from` does not, and the one there is a use, so that it is not asked again.
 fn first(
     text: &[u8],
     events: &[u8],
@@ -280,7 +280,10 @@ fn first(
     ensures { result ≡ undefined_of text.now events.now }
 {
     for i in from..event::count(events) {
-        if is_use(events, i) && !holds(text, events, definitions, footnotes, i) {
+        if i != from && !is_use(events, i) {
+            continue;
+        }
+        if !holds(text, events, definitions, footnotes, i) {
             return Some(i);
         }
     }
