@@ -77,3 +77,7 @@ ahead i j (Some b) h = (rw h, rw h)
 pub of-sign : (apostrophes : Bool) {l x y : ℕ} (b : ℕ) (bs : List ℕ) → l ≡ to_ascii_lowercase b → l ≡ 37 → x ≡ lower (get_or bs 0 0) → y ≡ lower (get_or bs 1 0) → written apostrophes b bs ≡ encode_of (escaping_of true apostrophes) (byte_of (l ∷ x ∷ y ∷ []))
 unfolding byte_of stays
 of-sign apostrophes b bs q p e f = rw (← lower-is b, ← q, p, e, f, two-ahead 0 bs)
+
+-- a % at an identity's end
+pub of-last-sign : (apostrophes : Bool) {l : ℕ} (b : ℕ) (bs : List ℕ) → l ≡ to_ascii_lowercase b → l ≡ 37 → bs ≡ [] → written apostrophes b bs ≡ encode_of (escaping_of true apostrophes) (byte_of (l ∷ 0 ∷ 0 ∷ []))
+of-last-sign apostrophes b bs q p e = of-sign apostrophes b bs q p (rw e refl) (rw e refl)

@@ -48,7 +48,11 @@ fn put_byte(b: u8, mut rest: Identity, apostrophes: bool, out: &mut [u8], at: us
     if l != b'%' {
         return put_before(l, 0, 0, apostrophes, out, at);
     }
-    let x = rest.next().unwrap_or(0).to_ascii_lowercase();
+    // nothing is behind an end, and to look for it would pass the same blanks again
+    let Some(x) = rest.next() else {
+        return put_before(l, 0, 0, apostrophes, out, at);
+    };
+    let x = x.to_ascii_lowercase();
     let y = rest.next().unwrap_or(0).to_ascii_lowercase();
     put_before(l, x, y, apostrophes, out, at)
 }
