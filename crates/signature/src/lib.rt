@@ -55,7 +55,8 @@ fn mixed(s: Signature, b: u8) -> Signature
     }))
 }
 
-// The signature of a label's identity.
+// The signature of a label's identity. Called, and not written into its callers: there each byte takes a quarter more instructions.
+#[inline(never)]
 pub fn sign(label: &[u8]) -> Signature
     ensures { result ≡ signature_of (identity_of label.now) }
 {
