@@ -88,7 +88,7 @@ fn try_write<F: FnOnce(&mut Writer)>(
 }
 
 // Refusals 1 and 2.
-fn take_text(text: &[u8]) -> Result<(), Refusal>
+pub fn take_text(text: &[u8]) -> Result<(), Refusal>
     ensures { result ≡ taken_of text.now }
 {
     if MOST_TEXT < text.len() {
